@@ -1,0 +1,5 @@
+pub mod Laws
+pub mod Lawful
+pub mod Faithful
+pub mod Sized
+pub mod Reading

@@ -1,0 +1,169 @@
+// Bits of bytes, the first the heaviest: a position by value, numbers read there and put there.
+ghost use mathlib.Core.Path.{_≡_};
+ghost use Prim.Native.Nat.{_+_, _*_, _<_, _≤_, _^_};
+ghost use lib.Dec.{leb};
+ghost use lib.ListN.{length, take, drop};
+ghost use Rattle.bits.specs.Bits.{bitsOf, bitsN, numberOf, splice, byteWith, bitAt, posOf, readU32, writeU32, written};
+
+// The bit 8 * byte + bit.
+pub struct BitPos {
+    pub byte: usize,
+    pub bit: u32,
+}
+
+// What read_u32 answers: the number and the advanced position, or the number of the refusal.
+pub enum BitRead {
+    Number(u32, BitPos),
+    Refused(u8),
+}
+
+// What write_u32 answers: the advanced position, or the number of the refusal.
+pub enum BitWrite {
+    Done(BitPos),
+    Refused(u8),
+}
+
+fn pow2(k: u32) -> u32
+    requires { ⌜ k < 32 ⌝ }
+    ensures { λ r. ⌜ r ≡ 2 ^ k ⌝ }
+{
+    1 << k
+}
+
+fn wide(b: u8) -> u32
+    ensures { λ r. ⌜ r ≡ b ⌝ }
+{
+    b as u32
+}
+
+// How many of the `left` bits still wanted stand in a byte from its bit r on.
+fn step(r: u32, left: u32) -> u32
+    requires { ⌜ (r < 8) × (0 < left) ⌝ }
+    ensures { λ c. ⌜ (0 < c) × (c ≤ left) × (r + c ≤ 8) ⌝ }
+{
+    if left < 8 - r { left } else { 8 - r }
+}
+
+// The number that n bits show, from the bit r of the byte q on, a byte at a time.
+fn number_at(src: &[u8], q: usize, r: u32, n: u32) -> u32
+    requires { ⌜ (n ≤ 32) × (r < 8) × (8 * q + r + n ≤ 8 * length (now src)) ⌝ }
+    ensures { λ v. ⌜ v ≡ numberOf (take n (drop (8 * q + r) (bitsOf (now (src .entry))))) ⌝ }
+{
+    let mut v: u32 = 0;
+    let mut i: u32 = 0;
+    let mut b: usize = q;
+    let mut p: u32 = r;
+    while i < n {
+        let c = step(p, n - i);
+        let x = wide(src[b]);
+        let k = 8 - p - c;
+        v = v * pow2(c) + (x >> k) % pow2(c);
+        i += c;
+        b += ((p + c) / 8) as usize;
+        p = (p + c) % 8;
+    }
+    v
+}
+
+// The byte x with c bits, those of w, put at its bit r.
+fn patched(x: u8, r: u32, c: u32, w: u32) -> u8
+    requires { ⌜ (r + c ≤ 8) × (w < 2 ^ c) ⌝ }
+    ensures { λ y. ⌜ y ≡ byteWith x r c w ⌝ }
+{
+    let k = 8 - r - c;
+    let o = wide(x);
+    (((o >> (c + k)) * pow2(c) + w) * pow2(k) + o % pow2(k)) as u8
+}
+
+// The low n bits of v are put from the bit r of the byte q on, a byte at a time.
+fn put_bits(out: &mut [u8], q: usize, r: u32, v: u32, n: u32)
+    requires { ⌜ (n ≤ 32) × (r < 8) × (8 * q + r + n ≤ 8 * length (now out)) ⌝ }
+    ensures { λ u. ⌜ bitsOf (now (out .exit)) ≡ splice (bitsOf (now (out .entry))) (8 * q + r) (bitsN n v) ⌝ }
+{
+    let mut i: u32 = 0;
+    let mut b: usize = q;
+    let mut p: u32 = r;
+    while i < n {
+        let c = step(p, n - i);
+        let w = (v >> (n - i - c)) % pow2(c);
+        out[b] = patched(out[b], p, c, w);
+        i += c;
+        b += ((p + c) / 8) as usize;
+        p = (p + c) % 8;
+    }
+}
+
+impl BitPos {
+    // Whether count numbers of width bits stand in len bytes from this position on. Nothing here can wrap: 7 * (2^64 / 8) fits.
+    pub fn holds(self, len: usize, width: u32, count: usize) -> bool
+        requires { ⌜ width ≤ 7 ⌝ }
+        requires { ⌜ len < 2 ^ 63 ⌝ }
+        ensures { λ r. ⌜ r ≡ leb (bitAt self + width * count) (8 * len) ⌝ }
+    {
+        let byte = self.byte;
+        let bit = self.bit;
+        if len < byte {
+            return false;
+        }
+        let q = byte + (bit / 8) as usize;
+        if len < q {
+            return false;
+        }
+        let whole = (width as usize) * (count / 8);
+        let part = (bit % 8) as usize + (width as usize) * (count % 8);
+        whole + (part + 7) / 8 <= len - q
+    }
+
+    // The position behind count numbers of width bits, of which holds has said that they are there.
+    pub fn after(self, width: u32, count: usize) -> BitPos
+        requires { ⌜ width ≤ 7 ⌝ }
+        requires { ⌜ bitAt self + width * count < 2 ^ 66 ⌝ }
+        ensures { λ r. ⌜ r ≡ posOf (bitAt self + width * count) ⌝ }
+    {
+        let byte = self.byte;
+        let bit = self.bit;
+        let part = bit as usize + (width as usize) * (count % 8);
+        BitPos {
+            byte: byte + (width as usize) * (count / 8) + part / 8,
+            bit: (part % 8) as u32,
+        }
+    }
+
+    // The next n bits as an unsigned number. Refuses with 12, then 8.
+    pub fn read_u32(self, src: &[u8], n: u32) -> BitRead
+        ensures { λ r. ⌜ r ≡ readU32 (now (src .entry)) (bitAt self) n ⌝ }
+    {
+        let byte = self.byte;
+        let bit = self.bit;
+        if 32 < n {
+            return BitRead::Refused(12);
+        }
+        if self.holds(src.len(), 1, n as usize) {
+            let q = byte + (bit / 8) as usize;
+            let r = bit % 8;
+            BitRead::Number(number_at(src, q, r, n), self.after(1, n as usize))
+        } else {
+            BitRead::Refused(8)
+        }
+    }
+
+    // The low n bits of v are put here. Refuses with 12, then 7.
+    pub fn write_u32(self, out: &mut [u8], v: u32, n: u32) -> BitWrite
+        ensures { λ r. ⌜ r ≡ writeU32 (now (out .entry)) (bitAt self) n ⌝ }
+        ensures { λ r. ⌜ now (out .exit) ≡ written (now (out .entry)) (bitAt self) v n ⌝ }
+    {
+        let byte = self.byte;
+        let bit = self.bit;
+        if 32 < n {
+            return BitWrite::Refused(12);
+        }
+        if self.holds(out.len(), 1, n as usize) {
+            let q = byte + (bit / 8) as usize;
+            let r = bit % 8;
+            put_bits(out, q, r, v, n);
+            BitWrite::Done(self.after(1, n as usize))
+        } else {
+            BitWrite::Refused(7)
+        }
+    }
+}

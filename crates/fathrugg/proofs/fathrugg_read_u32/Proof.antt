@@ -1,0 +1,24 @@
+-- `fathrugg::fathrugg_read_u32` meets its contract: what the call below answers is handed on. Assumes nothing.
+use mathlib.Core.Path.{refl, sym, _∙_}
+use borrow.Author.Needs.{needs}
+use Rattle.fathrugg.proofs.fathrugg_read_u32.Statement.{statement}
+use Rattle.fathrugg.proofs.fathrugg_read_u32.Tie as tie
+
+read-u32-requires : tie.Need-read-u32-requires
+read-u32-requires c κs = search needs
+
+enum-known-answer : tie.Need-enum-known-answer
+enum-known-answer c = search needs
+
+enum-known-answer-2 : tie.Need-enum-known-answer-2
+enum-known-answer-2 c = search needs
+
+returns : tie.Need-returns
+returns c = let e = sym (c .before .before .before .read-u32 .ensures) ∙ c .before .answer .given .1 in (rw e refl, (rw e refl, rw e refl))
+
+returns-2 : tie.Need-returns-2
+returns-2 c = let e = sym (c .before .before .before .read-u32 .ensures) ∙ c .before .answer2 .given .1 in (rw e refl, (rw e refl, rw e refl))
+
+pub fathrugg-read-u32-spec : {M : Type 1} → statement M
+fathrugg-read-u32-spec =
+    tie.close (tie.spec read-u32-requires enum-known-answer enum-known-answer-2 returns returns-2)

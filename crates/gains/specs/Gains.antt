@@ -1,0 +1,109 @@
+-- Gain-adaptive quantisation: which bins have a gain, and how gains stand in the field. ATSC A/52 Annex E, 3.4.2 and 3.4.4.2, Tables E3.3 and E3.4.
+use Prim.Native.Nat.{ℕ, zero, suc, _+_, _-_, _*_, _/_, _%_, min}
+use mathlib.Core.List.{List, [], _∷_, _++_, map}
+use mathlib.Core.Bool.{Bool, cond, _&&_}
+use lib.Dec.{eqb, leb, ltb}
+use lib.IntN.{ℤ, pos, negsuc}
+use lib.ListN.{length, take, drop}
+use Rattle.bits.specs.Bits.{numberOf, bitsOf, posOf}
+use Rattle.gains.specs.declared.ByteResult.{ByteResult}
+use Rattle.gains.specs.declared.ByteResult.the-variants.{Value}
+use Rattle.gains.specs.declared.CountResult.{CountResult}
+use Rattle.gains.specs.declared.CountResult.the-variants.{Count}
+use Rattle.gains.specs.declared.GainsResult.{GainsResult}
+use Rattle.gains.specs.declared.GainsResult.the-variants.{Codes}
+
+-- ---- which bins have a gain (3.4.2)
+-- gains are for hebap 8 up to endbap, not included
+unfoldable pub endbap : ℕ → ℕ
+endbap mode = cond (ltb mode 2) 12 17
+
+abbrev pub marked : ℕ → ℕ → Bool
+marked mode h = ltb 7 h && ltb h (endbap mode)
+
+-- chgaqbin: 1 where a gain word is there for the bin, -1 where hebap is too high for one, else 0
+unfoldable pub gaqbinOf : ℕ → ℕ → ℤ
+gaqbinOf mode h = cond (marked mode h) (pos 1) (cond (leb (endbap mode) h) (negsuc 0) (pos 0))
+
+-- chactivegaqbins: how many bins of a row are marked 1
+unfoldable pub markedBins : ℕ → List ℕ → ℕ
+markedBins mode [] = 0
+markedBins mode (h ∷ row) = cond (marked mode h) 1 0 + markedBins mode row
+
+-- chgaqsections: the gain words of n active bins
+unfoldable pub sections : ℕ → ℕ → ℕ
+sections mode n = cond (eqb mode 0) 0 (cond (eqb mode 3) ((n + 2) / 3) n)
+
+-- ---- gains (Tables E3.3 and E3.4)
+-- Gk of a code: mode 1 has 1 and 2, mode 2 has 1 and 4, mode 3 has 1, 2 and 4
+unfoldable pub gainValue : ℕ → ℕ → ℕ
+gainValue code mode =
+    cond (eqb code 0) 1
+    (cond (eqb mode 1) 2
+    (cond (eqb mode 2) 4
+    (cond (eqb mode 3) (cond (eqb code 1) 2 4) 1)))
+
+-- the bits of a gain word: one a gain in modes 1 and 2, five for three gains in mode 3
+unfoldable pub wordBits : ℕ → ℕ
+wordBits mode = cond (eqb mode 3) 5 1
+
+-- the codes of a gain word: the bit itself, or grpgain / 9, grpgain % 9 / 3 and grpgain % 9 % 3, where words 27 to 31 have their first cut to 2 (as the Rust)
+unfoldable pub wordCodes : ℕ → ℕ → List ℕ
+wordCodes mode w = cond (eqb mode 3) (min 2 (w / 9) ∷ w % 9 / 3 ∷ w % 9 % 3 ∷ []) (w ∷ [])
+
+-- the codes of n words that stand one after the other
+unfoldable pub codesFrom : ℕ → ℕ → List Bool → List ℕ
+codesFrom mode zero bs = []
+codesFrom mode (suc n) bs = wordCodes mode (numberOf (take (wordBits mode) bs)) ++ codesFrom mode n (drop (wordBits mode) bs)
+
+-- ---- what the functions answer; a mode above 3 gives 12
+unfoldable pub endbapForGaqmod : ℕ → ByteResult
+endbapForGaqmod mode = cond (leb mode 3) (Value (endbap mode)) (ByteResult.Refused 12)
+
+unfoldable pub gaqGainValue : ℕ → ℕ → ByteResult
+gaqGainValue code mode = cond (leb mode 3) (Value (gainValue code mode)) (ByteResult.Refused 12)
+
+unfoldable pub gaqSections : ℕ → ℕ → CountResult
+gaqSections mode n = cond (leb mode 3) (Count (sections mode n)) (CountResult.Refused 12)
+
+-- as many bins as the row has, and no more than there are places
+unfoldable pub fillGaqbin : ℕ → List ℕ → ℕ → CountResult
+fillGaqbin mode row places = cond (leb mode 3) (Count (markedBins mode (take places row))) (CountResult.Refused 12)
+
+unfoldable pub gaqbinAfter : ℕ → List ℕ → List ℤ → List ℤ
+gaqbinAfter mode row out = cond (leb mode 3) (map (gaqbinOf mode) (take (length out) row) ++ drop (length row) out) out
+
+-- ---- read_gaq_gains, for the bytes s, the bit position at, n sections and an output of some places
+-- the words that it reads: in modes 1 and 2 it stops where the output is full, in mode 3 it reads on
+unfoldable pub wordsRead : ℕ → ℕ → ℕ → ℕ
+wordsRead mode n places = cond (eqb mode 0) 0 (cond (eqb mode 3) n (min n places))
+
+-- the position behind them
+unfoldable pub wordsEnd : ℕ → ℕ → ℕ → ℕ → ℕ
+wordsEnd at mode n places = at + wordBits mode * wordsRead mode n places
+
+-- the codes that it puts out
+unfoldable pub gainCodes : List ℕ → ℕ → ℕ → ℕ → ℕ → List ℕ
+gainCodes s at mode n places = take places (codesFrom mode (wordsRead mode n places) (drop at (bitsOf s)))
+
+-- 12 for a mode above 3; 8 where the input has not the bits of its words, or the position is past the end
+unfoldable pub readGaqGains : List ℕ → ℕ → ℕ → ℕ → ℕ → GainsResult
+readGaqGains s at mode n places =
+    cond (leb mode 3)
+    (cond (leb (wordsEnd at mode n places) (8 * length s))
+    (Codes (length (gainCodes s at mode n places)) (posOf (wordsEnd at mode n places)))
+    (GainsResult.Refused 8))
+    (GainsResult.Refused 12)
+
+unfoldable pub gainsAfter : List ℕ → ℕ → ℕ → ℕ → List ℕ → List ℕ
+gainsAfter s at mode n out =
+    cond (leb mode 3)
+    (cond (leb (wordsEnd at mode n (length out)) (8 * length s))
+    (gainCodes s at mode n (length out) ++ drop (length (gainCodes s at mode n (length out))) out)
+    out)
+    out
+
+-- ---- a step of the code
+-- codes put from the place k on, as many as there are places for
+unfoldable pub placed : List ℕ → ℕ → List ℕ → List ℕ
+placed out k codes = take k out ++ (take (length out - k) codes ++ drop (k + length codes) out)

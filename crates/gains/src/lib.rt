@@ -1,0 +1,227 @@
+// Gain-adaptive quantisation: which bins have a gain, and the gain words of the field.
+ghost use mathlib.Core.Path.{_≡_};
+ghost use mathlib.Core.List.{_∷_, []};
+ghost use Prim.Native.Nat.{_+_, _*_, _/_, _≤_, min};
+ghost use lib.ListN.{length, drop};
+ghost use Rattle.bits.specs.Bits.{bitsOf, bitAt};
+ghost use Rattle.gains.specs.Gains.{endbapForGaqmod, gainValue, gaqGainValue, gaqSections, fillGaqbin, gaqbinAfter, endbap, gaqbinOf, wordBits, wordCodes, wordsRead, codesFrom, placed, readGaqGains, gainsAfter};
+use bits::BitPos;
+use bits::BitRead;
+
+// A small number, or the number of the refusal.
+pub enum ByteResult {
+    Value(u8),
+    Refused(u8),
+}
+
+// A count, or the number of the refusal.
+pub enum CountResult {
+    Count(usize),
+    Refused(u8),
+}
+
+// What read_gaq_gains answers: how many codes it put out and the advanced position, or the number of the refusal.
+pub enum GainsResult {
+    Codes(usize, BitPos),
+    Refused(u8),
+}
+
+fn end_of(gaqmod: u8) -> u8
+    ensures { λ r. ⌜ r ≡ endbap gaqmod ⌝ }
+{
+    if gaqmod < 2 { 12 } else { 17 }
+}
+
+// Gains are for hebap 8 up to this one, not included. Refuses a mode above 3 with 12.
+pub fn endbap_for_gaqmod(gaqmod: u8) -> ByteResult
+    ensures { λ r. ⌜ r ≡ endbapForGaqmod gaqmod ⌝ }
+{
+    if 3 < gaqmod {
+        return ByteResult::Refused(12);
+    }
+    ByteResult::Value(end_of(gaqmod))
+}
+
+fn least(a: usize, b: usize) -> usize
+    ensures { λ r. ⌜ r ≡ min a b ⌝ }
+{
+    if a < b { a } else { b }
+}
+
+fn mark(gaqmod: u8, h: u8) -> i8
+    ensures { λ r. ⌜ r ≡ gaqbinOf gaqmod h ⌝ }
+{
+    if end_of(gaqmod) <= h {
+        return -1;
+    }
+    if 7 < h { 1 } else { 0 }
+}
+
+// Marks each bin of the row: 1 has a gain word, -1 has hebap endbap or above, else 0. Answers how many are 1. Refuses a mode above 3 with 12.
+pub fn fill_gaqbin(hebap: &[u8], gaqmod: u8, gaqbin: &mut [i8]) -> CountResult
+    ensures { λ r. ⌜ r ≡ fillGaqbin gaqmod (now (hebap .entry)) (length (now (gaqbin .entry))) ⌝ }
+    ensures { λ r. ⌜ now (gaqbin .exit) ≡ gaqbinAfter gaqmod (now (hebap .entry)) (now (gaqbin .entry)) ⌝ }
+{
+    if 3 < gaqmod {
+        return CountResult::Refused(12);
+    }
+    let n = least(hebap.len(), gaqbin.len());
+    let mut active: usize = 0;
+    let mut i: usize = 0;
+    while i < n {
+        let m = mark(gaqmod, hebap[i]);
+        gaqbin[i] = m;
+        if m == 1 {
+            active += 1;
+        }
+        i += 1;
+    }
+    CountResult::Count(active)
+}
+
+// The gain words of so many active bins. Refuses a mode above 3 with 12.
+pub fn gaq_sections(gaqmod: u8, active_gaqbins: usize) -> CountResult
+    ensures { λ r. ⌜ r ≡ gaqSections gaqmod «active_gaqbins» ⌝ }
+{
+    match gaqmod {
+        0 => CountResult::Count(0),
+        1 | 2 => CountResult::Count(active_gaqbins),
+        3 => {
+            let whole = active_gaqbins / 3;
+            if active_gaqbins % 3 == 0 {
+                CountResult::Count(whole)
+            } else {
+                CountResult::Count(whole + 1)
+            }
+        }
+        _ => CountResult::Refused(12),
+    }
+}
+
+// Gk of a code; 1 in a mode without gains.
+pub fn gain_value(code: u8, gaqmod: u8) -> u8
+    ensures { λ r. ⌜ r ≡ gainValue code gaqmod ⌝ }
+{
+    if code == 0 {
+        return 1;
+    }
+    match gaqmod {
+        1 => 2,
+        2 => 4,
+        3 => { if code == 1 { 2 } else { 4 } }
+        _ => 1,
+    }
+}
+
+// The same. Refuses a mode above 3 with 12.
+pub fn gaq_gain_value(code: u8, gaqmod: u8) -> ByteResult
+    ensures { λ r. ⌜ r ≡ gaqGainValue code gaqmod ⌝ }
+{
+    if 3 < gaqmod {
+        return ByteResult::Refused(12);
+    }
+    ByteResult::Value(gain_value(code, gaqmod))
+}
+
+fn word_bits(gaqmod: u8) -> u32
+    ensures { λ r. ⌜ r ≡ wordBits gaqmod ⌝ }
+{
+    if gaqmod == 3 { 5 } else { 1 }
+}
+
+fn words_read(gaqmod: u8, nsections: usize, places: usize) -> usize
+    ensures { λ r. ⌜ r ≡ wordsRead gaqmod nsections places ⌝ }
+{
+    if gaqmod == 0 {
+        return 0;
+    }
+    if gaqmod == 3 {
+        return nsections;
+    }
+    least(nsections, places)
+}
+
+// The code goes to the place k, if there is one; answers the next place.
+fn put_code(out: &mut [u8], k: usize, code: u8) -> usize
+    requires { ⌜ k ≤ length (now out) ⌝ }
+    ensures { λ r. ⌜ r ≡ min (length (now (out .entry))) (k + 1) ⌝ }
+    ensures { λ r. ⌜ now (out .exit) ≡ placed (now (out .entry)) k (code ∷ []) ⌝ }
+{
+    if k < out.len() {
+        out[k] = code;
+        return k + 1;
+    }
+    k
+}
+
+// The first code of a group word.
+fn first_code(word: u32) -> u8
+    ensures { λ r. ⌜ r ≡ min 2 (word / 9) ⌝ }
+{
+    if word < 18 { (word / 9) as u8 } else { 2 }
+}
+
+// The codes of a word go to the places from k on, as far as there are any; answers the next place.
+fn put_word(out: &mut [u8], k: usize, gaqmod: u8, word: u32) -> usize
+    requires { ⌜ k ≤ length (now out) ⌝ }
+    requires { ⌜ word ≤ 31 ⌝ }
+    ensures { λ r. ⌜ r ≡ min (length (now (out .entry))) (k + length (wordCodes gaqmod word)) ⌝ }
+    ensures { λ r. ⌜ now (out .exit) ≡ placed (now (out .entry)) k (wordCodes gaqmod word) ⌝ }
+{
+    if gaqmod == 3 {
+        let a = put_code(&mut *out, k, first_code(word));
+        let b = put_code(&mut *out, a, (word % 9 / 3) as u8);
+        return put_code(&mut *out, b, (word % 9 % 3) as u8);
+    }
+    put_code(&mut *out, k, word as u8)
+}
+
+// The codes of n words go to the front of the output; answers how many there was room for.
+fn put_words(src: &[u8], pos: BitPos, gaqmod: u8, n: usize, out: &mut [u8]) -> usize
+    requires { ⌜ bitAt pos + wordBits gaqmod * n ≤ 8 * length (now src) ⌝ }
+    ensures { λ r. ⌜ r ≡ min (length (now (out .entry))) (length (codesFrom gaqmod n (drop (bitAt pos) (bitsOf (now (src .entry)))))) ⌝ }
+    ensures { λ r. ⌜ now (out .exit) ≡ placed (now (out .entry)) 0 (codesFrom gaqmod n (drop (bitAt pos) (bitsOf (now (src .entry))))) ⌝ }
+{
+    let w = word_bits(gaqmod);
+    let mut p = pos;
+    let mut k: usize = 0;
+    let mut i: usize = 0;
+    while i < n {
+        let r = p.read_u32(src, w);
+        match r {
+            BitRead::Refused(_) => {
+                return k;
+            }
+            BitRead::Number(word, next) => {
+                k = put_word(&mut *out, k, gaqmod, word);
+                p = next;
+                i += 1;
+            }
+        }
+    }
+    k
+}
+
+// Reads nsections gain words and puts their codes 0 to 2 to the front of the output, as far as it goes. Refuses with 12, then 8.
+pub fn read_gaq_gains(
+    src: &[u8],
+    pos: BitPos,
+    gaqmod: u8,
+    nsections: usize,
+    out: &mut [u8],
+) -> GainsResult
+    ensures { λ r. ⌜ r ≡ readGaqGains (now (src .entry)) (bitAt pos) gaqmod nsections (length (now (out .entry))) ⌝ }
+    ensures { λ r. ⌜ now (out .exit) ≡ gainsAfter (now (src .entry)) (bitAt pos) gaqmod nsections (now (out .entry)) ⌝ }
+{
+    if 3 < gaqmod {
+        return GainsResult::Refused(12);
+    }
+    let n = words_read(gaqmod, nsections, out.len());
+    let w = word_bits(gaqmod);
+    if pos.holds(src.len(), w, n) {
+        let k = put_words(src, pos, gaqmod, n, &mut *out);
+        GainsResult::Codes(k, pos.after(w, n))
+    } else {
+        GainsResult::Refused(8)
+    }
+}

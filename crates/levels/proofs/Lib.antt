@@ -1,0 +1,6 @@
+pub mod Signed
+pub mod Scaling
+pub mod Distinct
+pub mod Rows
+pub mod Sizes
+pub mod CodeLaws

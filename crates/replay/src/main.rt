@@ -1,0 +1,381 @@
+// Replays answers of the Rust: each record of standard input is a call with the answer that the Rust gave (tests/judge/record.rs
+// wrote it). Prints for each function how many answers were replayed and how many were wrong.
+ghost use Prim.Native.Nat.{_+_, _<_, _≤_};
+use bits::BitPos;
+use bits::BitRead;
+use bits::BitWrite;
+use gains::ByteResult;
+use gains::CountResult;
+use gains::GainsResult;
+use libc::STDIN_FILENO;
+use libc::STDOUT_FILENO;
+use scalars::ScalarResult;
+use tables::HebapResult;
+
+type Record = [u8; 128];
+
+// The places of a record.
+const REFUSAL: usize = 1;
+
+const A: usize = 2;
+
+const B: usize = 3;
+
+const C: usize = 4;
+
+const D: usize = 5;
+
+const SRC_LEN: usize = 6;
+
+const OUT_LEN: usize = 7;
+
+const BYTE: usize = 8;
+
+const BIT: usize = 16;
+
+const ARG32: usize = 20;
+
+const ARG64: usize = 24;
+
+const SRC: usize = 32;
+
+const OUT: usize = 56;
+
+const OUT_AFTER: usize = 80;
+
+const VALUE: usize = 104;
+
+const NEXT_BYTE: usize = 112;
+
+const NEXT_BIT: usize = 120;
+
+// A function, how many answers of it were replayed, and how many of them were wrong.
+pub struct Count {
+    pub function: u8,
+    pub answers: u64,
+    pub wrong: u64,
+}
+
+fn wide(b: u8) -> u64
+    ensures { λ v. ⌜ v < 256 ⌝ }
+{
+    b as u64
+}
+
+// The numbers of 16, 32 and 64 bits at a place, the least significant byte first.
+fn number16(r: &Record, at: usize) -> u64
+    requires { ⌜ at + 2 ≤ 128 ⌝ }
+    ensures { λ v. ⌜ v < 0x1_0000 ⌝ }
+{
+    wide(r[at]) + 256 * wide(r[at + 1])
+}
+
+fn number32(r: &Record, at: usize) -> u64
+    requires { ⌜ at + 4 ≤ 128 ⌝ }
+    ensures { λ v. ⌜ v < 0x1_0000_0000 ⌝ }
+{
+    number16(r, at) + 0x1_0000 * number16(r, at + 2)
+}
+
+fn number64(r: &Record, at: usize) -> u64
+    requires { ⌜ at + 8 ≤ 128 ⌝ }
+{
+    number32(r, at) + 0x1_0000_0000 * number32(r, at + 4)
+}
+
+fn position(r: &Record) -> BitPos {
+    BitPos {
+        byte: number64(r, BYTE) as usize,
+        bit: number32(r, BIT) as u32,
+    }
+}
+
+// The number that the bits of v are in two's complement.
+fn signed8(v: u8) -> i8 {
+    if v < 0x80 {
+        v as i8
+    } else {
+        !((0xff - v) as i8)
+    }
+}
+
+fn signed16(v: u64) -> i16
+    requires { ⌜ v < 0x1_0000 ⌝ }
+{
+    if v < 0x8000 {
+        v as i16
+    } else {
+        !((0xffff - v) as i16)
+    }
+}
+
+fn signed32(v: u64) -> i32
+    requires { ⌜ v < 0x1_0000_0000 ⌝ }
+{
+    if v < 0x8000_0000 {
+        v as i32
+    } else {
+        !((0xffff_ffff - v) as i32)
+    }
+}
+
+// A length of the record, at most 24.
+fn size(b: u8) -> usize
+    ensures { λ n. ⌜ n ≤ 24 ⌝ }
+{
+    if b < 24 { b as usize } else { 24 }
+}
+
+fn input(r: &Record) -> &[u8] {
+    let all = &r[..];
+    let end = SRC + size(r[SRC_LEN]);
+    &all[SRC..end]
+}
+
+// Whether the answer has the record's refusal and value.
+fn same_value(r: &Record, refusal: u8, value: u64) -> bool {
+    r[REFUSAL] == refusal && number64(r, VALUE) == value
+}
+
+// Whether the position is the record's.
+fn same_place(r: &Record, p: BitPos) -> bool {
+    number64(r, NEXT_BYTE) == p.byte as u64 && number32(r, NEXT_BIT) as u32 == p.bit
+}
+
+// Whether the n places of the output, in a copy of the record, are what the record has after the call.
+fn same_out(r: &Record, out: &Record, n: usize) -> bool
+    requires { ⌜ n ≤ 24 ⌝ }
+{
+    let given = &out[..];
+    let wanted = &r[..];
+    let end = OUT + n;
+    let end_after = OUT_AFTER + n;
+    check::same(&given[OUT..end], &wanted[OUT_AFTER..end_after])
+}
+
+fn replay_read(r: &Record) -> bool {
+    let p = position(r);
+    let answer = p.read_u32(input(r), number32(r, ARG32) as u32);
+    match answer {
+        BitRead::Number(v, q) => same_value(r, 0, v as u64) && same_place(r, q),
+        BitRead::Refused(k) => same_value(r, k, 0),
+    }
+}
+
+// The call writes to the place of the output in a copy of the record.
+fn replay_write(r: Record) -> bool {
+    let mut out = r;
+    let n = size(r[OUT_LEN]);
+    let end = OUT + n;
+    let p = position(&r);
+    let v = number32(&r, ARG32) as u32;
+    let answer = p.write_u32(&mut out[OUT..end], v, r[A] as u32);
+    if !same_out(&r, &out, n) {
+        return false;
+    }
+    match answer {
+        BitWrite::Done(q) => same_value(&r, 0, 0) && same_place(&r, q),
+        BitWrite::Refused(k) => same_value(&r, k, 0),
+    }
+}
+
+fn replay_hebap(r: &Record) -> bool {
+    let answer = tables::hebap_from_address(signed16(number16(r, A)), signed32(number32(r, ARG32)));
+    match answer {
+        HebapResult::Hebap(h) => same_value(r, 0, h as u64),
+        HebapResult::Refused(k) => same_value(r, k, 0),
+    }
+}
+
+fn replay_byte(r: &Record, answer: ByteResult) -> bool {
+    match answer {
+        ByteResult::Value(v) => same_value(r, 0, v as u64),
+        ByteResult::Refused(k) => same_value(r, k, 0),
+    }
+}
+
+fn replay_count(r: &Record, answer: CountResult) -> bool {
+    match answer {
+        CountResult::Count(n) => same_value(r, 0, n as u64),
+        CountResult::Refused(k) => same_value(r, k, 0),
+    }
+}
+
+// The output before the call, as signed numbers.
+fn marks_of(r: &Record) -> [i8; 24] {
+    let mut marks = [0i8; 24];
+    let mut i: usize = 0;
+    while i < 24 {
+        marks[i] = signed8(r[OUT + i]);
+        i += 1;
+    }
+    marks
+}
+
+fn same_marks(r: &Record, n: usize, marks: &[i8; 24]) -> bool
+    requires { ⌜ n ≤ 24 ⌝ }
+{
+    let mut i: usize = 0;
+    while i < n {
+        if marks[i] != signed8(r[OUT_AFTER + i]) {
+            return false;
+        }
+        i += 1;
+    }
+    true
+}
+
+fn replay_fill(r: &Record, before: [i8; 24]) -> bool {
+    let mut marks = before;
+    let n = size(r[OUT_LEN]);
+    let answer = gains::fill_gaqbin(input(r), r[A], &mut marks[0..n]);
+    same_marks(r, n, &marks) && replay_count(r, answer)
+}
+
+fn replay_gains(r: Record) -> bool {
+    let mut out = r;
+    let n = size(r[OUT_LEN]);
+    let end = OUT + n;
+    let p = position(&r);
+    let sections = number64(&r, ARG64) as usize;
+    let mode = r[A];
+    let answer = gains::read_gaq_gains(input(&r), p, mode, sections, &mut out[OUT..end]);
+    if !same_out(&r, &out, n) {
+        return false;
+    }
+    match answer {
+        GainsResult::Codes(k, q) => same_value(&r, 0, k as u64) && same_place(&r, q),
+        GainsResult::Refused(k) => same_value(&r, k, 0),
+    }
+}
+
+// Whether y has the bits that the record has for the value j. A NaN has no bits of its own, and no answer is one.
+fn same_float(r: &Record, j: usize, y: f32) -> bool
+    requires { ⌜ j < 6 ⌝ }
+{
+    if y != y {
+        return false;
+    }
+    f32::to_bits(y) == number32(r, OUT_AFTER + 4 * j) as u32
+}
+
+fn same_floats(r: &Record, y: &[f32; 6]) -> bool {
+    same_float(r, 0, y[0])
+        && same_float(r, 1, y[1])
+        && same_float(r, 2, y[2])
+        && same_float(r, 3, y[3])
+        && same_float(r, 4, y[4])
+        && same_float(r, 5, y[5])
+}
+
+fn replay_scalars(r: &Record) -> bool {
+    // each byte of these is 0x42, as in every record before the call
+    let mut values = [48.564705f32; 6];
+    let p = position(r);
+    let answer = scalars::read_scalar_aht_mantissas(
+        input(r),
+        p,
+        r[A],
+        r[B],
+        signed8(r[C]),
+        r[D],
+        &mut values,
+    );
+    if !same_floats(r, &values) {
+        return false;
+    }
+    match answer {
+        ScalarResult::Done(q) => same_value(r, 0, 0) && same_place(r, q),
+        ScalarResult::Refused(k) => same_value(r, k, 0),
+    }
+}
+
+// Whether the call of the record gives the record's answer.
+fn right(r: &Record) -> bool {
+    let function = r[0];
+    match function {
+        1 => replay_read(r),
+        2 => replay_write(*r),
+        3 => replay_hebap(r),
+        4 => replay_byte(r, gains::endbap_for_gaqmod(r[A])),
+        5 => replay_fill(r, marks_of(r)),
+        6 => replay_count(r, gains::gaq_sections(r[A], number64(r, ARG64) as usize)),
+        7 => replay_byte(r, gains::gaq_gain_value(r[A], r[B])),
+        8 => replay_gains(*r),
+        9 => replay_scalars(r),
+        _ => false,
+    }
+}
+
+fn say(function: u8) -> bool {
+    match function {
+        1 => io::write_all(STDOUT_FILENO, b"read_u32: "),
+        2 => io::write_all(STDOUT_FILENO, b"write_u32: "),
+        3 => io::write_all(STDOUT_FILENO, b"hebap_from_address: "),
+        4 => io::write_all(STDOUT_FILENO, b"endbap_for_gaqmod: "),
+        5 => io::write_all(STDOUT_FILENO, b"fill_gaqbin: "),
+        6 => io::write_all(STDOUT_FILENO, b"gaq_sections: "),
+        7 => io::write_all(STDOUT_FILENO, b"gaq_gain_value: "),
+        8 => io::write_all(STDOUT_FILENO, b"read_gaq_gains: "),
+        9 => io::write_all(STDOUT_FILENO, b"read_scalar_aht_mantissas: "),
+        _ => io::write_all(STDOUT_FILENO, b"no function: "),
+    }
+}
+
+fn print_count(c: Count) {
+    say(c.function);
+    io::print_decimal(STDOUT_FILENO, c.answers);
+    io::write_all(STDOUT_FILENO, b" answers, ");
+    io::print_decimal(STDOUT_FILENO, c.wrong);
+    io::write_all(STDOUT_FILENO, b" wrong\n");
+}
+
+fn one_more(c: Count, ok: bool) -> Count {
+    Count {
+        function: c.function,
+        answers: std::num::wrapping_add_u64(c.answers, 1),
+        wrong: if ok {
+            c.wrong
+        } else {
+            std::num::wrapping_add_u64(c.wrong, 1)
+        },
+    }
+}
+
+// Replays a record. The records stand by function: where the next one begins, the count of the last one is printed.
+fn counted(c: Count, r: &Record) -> Count {
+    let function = r[0];
+    if c.function == function {
+        return one_more(c, right(r));
+    }
+    if 0 < c.answers {
+        print_count(c);
+    }
+    let new = Count {
+        function,
+        answers: 0,
+        wrong: 0,
+    };
+    one_more(new, right(r))
+}
+
+// Reads the next record; false where the input has no whole one any more.
+fn next(r: &mut Record) -> bool {
+    io::read_full(STDIN_FILENO, &mut *r) == 128
+}
+
+// A proved loop has to end, so it counts its turns down, from a number that no input uses up.
+fn main() {
+    let mut record = [0u8; 128];
+    let mut c = Count {
+        function: 0,
+        answers: 0,
+        wrong: 0,
+    };
+    let mut turns = u64::MAX;
+    while 0 < turns && next(&mut record) {
+        c = counted(c, &record);
+        turns -= 1;
+    }
+    print_count(c);
+}

@@ -1,0 +1,142 @@
+-- The loop over the six codes of a bin: what is known before each turn, and what a turn does. Assumes nothing.
+use Prim.Native.Nat.{ℕ, zero, suc, _+_, _-_, _*_, _≤_, _<_}
+use mathlib.Core.Path.{_≡_, refl, sym, ap, _∙_, subst}
+use mathlib.Core.List.{List, [], _∷_, _++_, map, map-append, append-nil}
+use mathlib.Core.Bool.{Bool}
+use native.Mathlib.Omega.{arith}
+use lib.IntN.{ℤ}
+use lib.Ieee.{Float}
+use lib.ListN.{length, drop, set, replicate, length-append, drop-of-length-le}
+use Rattle.bits.specs.Bits.{bitsOf, bitAt, posOf, splice, Inside}
+use Rattle.bits.specs.Format.{Got, got, refused, andThen, Format, each, each-Ok, each-dec, resume}
+use Rattle.bits.specs.declared.BitPos.{BitPos}
+use Rattle.bits.proofs.Laws.{splice-none, splice-one, splice-more, length-splice}
+use Rattle.bits.proofs.Lawful.{Lawful, each-lawful, resume-none, resume-next, resume-stop, resume-done}
+use Rattle.bits.proofs.Reading.{pos-is}
+use Rattle.tables.specs.Tables.{mantBits}
+use Rattle.levels.specs.declared.Code.{Code}
+use Rattle.levels.specs.Codes.{coded, six, Accepted, CodeFits}
+use Rattle.levels.specs.Exact.{exactOf}
+use Rattle.levels.specs.Value.{valueOf}
+use Rattle.levels.proofs.CodeLaws.{coded-lawful, coded-accepted}
+use Rattle.scalars.specs.declared.ScalarResult.{ScalarResult}
+use Rattle.scalars.specs.Scalars.{scalarAnswer, SixPut, scalarsAfter}
+
+-- a code that was read fits its bits
+pub code-fits : (h g : ℕ) (bs rest : List Bool) (c : Code) → coded (mantBits h) g .dec bs ≡ got c rest → CodeFits h g c
+code-fits h g bs rest c e = fits c (coded-accepted h g c (coded-lawful (mantBits h) g .sole bs rest c e .1))
+  where
+    fits : (c : Code) → Accepted h g c → CodeFits h g c
+    fits (Code.Small s) a = a .1
+    fits (Code.Large l) a = a
+
+length-map : {A B : Type 0} (f : A → B) (l : List A) → length (map f l) ≡ length l
+length-map f [] = refl
+length-map f (x ∷ l) = ap suc (length-map f l)
+
+-- a list in which so many values stand from a place on, and one more
+put-more : {A B : Type 0} (f : A → B) (v : List B) (at : ℕ) (cs : List A) (c : A) → at + length cs < length v
+    → set (splice v at (map f cs)) (at + length cs) (f c) ≡ splice v at (map f (cs ++ (c ∷ [])))
+put-more f v at cs c h =
+    let k = length-map f cs in
+    let l : length (splice v at (map f cs)) ≡ length v = length-splice v (map f cs) at (omega arith) in
+    let room : at + (length (map f cs) + length (f c ∷ [])) ≤ length v = omega arith in
+    sym (splice-one (splice v at (map f cs)) (at + length cs) (f c) (omega arith))
+    ∙ ap (λ (n : ℕ). splice (splice v at (map f cs)) (at + n) (f c ∷ [])) (sym k)
+    ∙ splice-more v (map f cs) (f c ∷ []) at room
+    ∙ ap (splice v at) (sym (map-append f cs (c ∷ [])))
+
+module _ (h g at : ℕ) (s : List ℕ) (start : ℕ) (v : List Float) (x : List ℤ) where
+  abbrev one : ℕ → Format Code
+  one k = coded (mantBits h) g
+
+  -- the codes read so far, and where they and the rest stand
+  pub record SoFar (p : BitPos) (j : ℕ) (v′ : List Float) (x′ : List ℤ) : Type 0 where
+    pub cs : List Code
+    pub count : length cs ≡ j
+    pub few : j ≤ 6
+    pub inside : Inside (8 * length s) p
+    pub rest : six (mantBits h) g .dec (drop start (bitsOf s)) ≡ resume cs (each-dec one (replicate (6 - j) 0) (drop (bitAt p) (bitsOf s)))
+    pub values : v′ ≡ splice v at (map (valueOf h g) cs)
+    pub exacts : x′ ≡ splice x at (map (exactOf h g) cs)
+
+  pub none-yet : (p : BitPos) → bitAt p ≡ start → Inside (8 * length s) p → SoFar p 0 v x
+  none-yet p e i =
+      record {
+        cs = [];
+        count = refl;
+        few = omega arith;
+        inside = i;
+        rest = rw e (sym (resume-none _));
+        values = sym (splice-none v at);
+        exacts = sym (splice-none x at);
+      }
+
+  module _ (p : BitPos) (j : ℕ) (v′ : List Float) (x′ : List ℤ) (f : SoFar p j v′ x′) (more : j < 6) where
+    left : replicate {A = ℕ} (6 - j) 0 ≡ 0 ∷ replicate (6 - (j + 1)) 0
+    left = let e : 6 - j ≡ suc (6 - (j + 1)) = omega arith in ap (λ (n : ℕ). replicate {A = ℕ} n 0) e
+
+    pub one-more : (c : Code) (q : BitPos) (y : Float) (z : ℤ) → at + 6 ≤ length v → at + 6 ≤ length x → Inside (8 * length s) q
+        → coded (mantBits h) g .dec (drop (bitAt p) (bitsOf s)) ≡ got c (drop (bitAt q) (bitsOf s)) → y ≡ valueOf h g c → z ≡ exactOf h g c
+        → SoFar q (j + 1) (set v′ (at + j) y) (set x′ (at + j) z)
+    one-more c q y z hv hx i e ey ez =
+        let k = f .count in
+        let hv′ : at + length (f .cs) < length v = omega arith in
+        let hx′ : at + length (f .cs) < length x = omega arith in
+        record {
+          cs = f .cs ++ (c ∷ []);
+          count = length-append (f .cs) (c ∷ []) ∙ ap (λ (n : ℕ). n + 1) k;
+          few = omega arith;
+          inside = i;
+          rest = f .rest ∙ rw left (resume-next one 0 (replicate (6 - (j + 1)) 0) (drop (bitAt p) (bitsOf s)) (drop (bitAt q) (bitsOf s)) (f .cs) c e);
+          values = rw (ey, f .values, ← k) (put-more (valueOf h g) v at (f .cs) c hv′);
+          exacts = rw (ez, f .exacts, ← k) (put-more (exactOf h g) x at (f .cs) c hx′);
+        }
+
+    -- the bits run out
+    pub cut : (k : ℕ) → coded (mantBits h) g .dec (drop (bitAt p) (bitsOf s)) ≡ refused k → six (mantBits h) g .dec (drop start (bitsOf s)) ≡ refused k
+    cut k e = f .rest ∙ rw left (resume-stop one 0 (replicate (6 - (j + 1)) 0) (drop (bitAt p) (bitsOf s)) (f .cs) k e)
+
+  pub put-none : (k : ℕ) (v′ : List Float) (x′ : List ℤ) (G : Got (List Code)) → G ≡ refused k → length v′ ≡ length v → length x′ ≡ length x
+      → (ScalarResult.Refused k ≡ scalarAnswer (8 * length s) G) × SixPut h g at G v v′ x x′
+  put-none k v′ x′ G e hv hx = rw e (refl, (hv, hx))
+
+  -- all six are there
+  pub all-six : (p : BitPos) (j : ℕ) (v′ : List Float) (x′ : List ℤ) → SoFar p j v′ x′ → 6 ≤ j → (G : Got (List Code)) → G ≡ six (mantBits h) g .dec (drop start (bitsOf s))
+      → (ScalarResult.Done p ≡ scalarAnswer (8 * length s) G) × SixPut h g at G v v′ x x′
+  all-six p j v′ x′ f l G e =
+      let n : replicate {A = ℕ} (6 - j) 0 ≡ [] = let z : 6 - j ≡ 0 = omega arith in ap (λ (n : ℕ). replicate {A = ℕ} n 0) z in
+      let d : G ≡ got (f .cs) (drop (bitAt p) (bitsOf s)) = e ∙ f .rest ∙ rw n (resume-done one (drop (bitAt p) (bitsOf s)) (f .cs)) in
+      rw d (ap ScalarResult.Done (sym (pos-is s p (f .inside))), (f .values, f .exacts))
+
+-- ---- the six values put out
+counted : {A : Type 0} (F : ℕ → Format A) (n : ℕ) (cs : List A) → each-Ok F (replicate n 0) cs → length cs ≡ n
+unfolding each-Ok
+counted F zero [] o = refl
+counted F zero (c ∷ cs) o = absurd o
+counted F (suc n) [] o = absurd o
+counted F (suc n) (c ∷ cs) o = ap suc (counted F n cs (o .1))
+
+six-there : (m g : ℕ) (bs rest : List Bool) (cs : List Code) → six m g .dec bs ≡ got cs rest → length cs ≡ 6
+six-there m g bs rest cs e = counted (λ k. coded m g) 6 cs (each-lawful (λ k. coded m g) (λ k. coded-lawful m g) (replicate 6 0) .sole bs rest cs e .1)
+
+-- a whole list put in
+splice-whole : {A : Type 0} (l new : List A) → length l ≡ length new → splice l 0 new ≡ new
+unfolding splice
+splice-whole l new e = let h : length l ≤ 0 + length new = omega arith in rw (drop-of-length-le l h, append-nil)
+
+module _ (h g n : ℕ) (bs : List Bool) (out : List Float) where
+  abbrev shownAs : List Code → List Bool → Got (List Float)
+  shownAs cs rest = got (map (valueOf h g) cs) rest
+
+  pub values-none : (k : ℕ) (G : Got (List Code)) → ScalarResult.Refused k ≡ scalarAnswer n G
+      → (ScalarResult.Refused k ≡ scalarAnswer n (andThen G shownAs)) × (out ≡ scalarsAfter out (andThen G shownAs))
+  values-none k (got cs rest) e = let z : _≡_ {A = ℕ} 0 1 = cc in absurd (omega arith)
+  values-none k (refused j) e = (e, refl)
+
+  pub values-all : (q : BitPos) (v v′ : List Float) (x x′ : List ℤ) (G : Got (List Code)) → G ≡ six (mantBits h) g .dec bs → ScalarResult.Done q ≡ scalarAnswer n G
+      → SixPut h g 0 G v v′ x x′ → length v ≡ 6 → (ScalarResult.Done q ≡ scalarAnswer n (andThen G shownAs)) × (v′ ≡ scalarsAfter out (andThen G shownAs))
+  values-all q v v′ x x′ (got cs rest) d e p l =
+      let k = six-there (mantBits h) g bs rest cs (sym d) in
+      (e, p .0 ∙ splice-whole v (map (valueOf h g) cs) (l ∙ sym k ∙ sym (length-map (valueOf h g) cs)))
+  values-all q v v′ x x′ (refused j) d e p l = let z : _≡_ {A = ℕ} 0 1 = cc in absurd (omega arith)

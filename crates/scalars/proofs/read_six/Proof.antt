@@ -1,0 +1,157 @@
+-- `scalars::read_six` meets its contract: before each turn the codes read so far are known (Six.SoFar). Assumes nothing.
+use Prim.Native.Nat.{_-_, _*_, _+_, _≤_, _<_}
+use mathlib.Core.Path.{_≡_, refl, sym, ap, _∙_}
+use denote.Ref.{now}
+use lib.IntN.{ℤ}
+use lib.ListN.{length, drop, length-set}
+use mir.Syntax.{w32}
+use mir.ValLaws.{toZ-ofZ}
+use Rattle.bits.specs.Bits.{bitsOf, bitAt, Inside}
+use Rattle.bits.specs.Format.{got}
+use Rattle.bits.specs.declared.BitPos.{BitPos}
+use Rattle.tables.specs.Tables.{mantBits}
+use Rattle.levels.specs.Codes.{coded, six, CodeFits}
+use Rattle.levels.specs.Exact.{exactOf}
+use Rattle.levels.specs.Value.{valueIn, valueOf}
+use Rattle.scalars.specs.Scalars.{codeIn, CodeNext}
+use Rattle.scalars.proofs.Six.{SoFar, none-yet, one-more, cut, put-none, all-six, code-fits}
+use native.Mathlib.Omega.{arith}
+use borrow.Author.Needs.{needs}
+use Rattle.scalars.proofs.read_six.Statement.{statement}
+use Rattle.scalars.proofs.read_six.Tie as tie
+
+abbrev Inv-loop : tie.InvT-loop
+Inv-loop src hebap gk at values₀ exact₀ p₀ j₀ values exact p j =
+    SoFar hebap gk at src (bitAt p₀) values₀ exact₀ p j values exact × (length values ≡ length values₀) × (length exact ≡ length exact₀)
+
+abbrev μ-loop : tie.MeasureT-loop
+μ-loop src hebap gk at values₀ exact₀ p₀ j₀ values exact p j = 6 - j
+
+loop-holds : tie.Need-loop-holds Inv-loop μ-loop
+loop-holds c = let a = c .before .before .args in (none-yet (a .hebap) (a .gk) (a .at) (now (a .src)) (bitAt (a .pos)) (now (a .values)) (now (a .exact)) (a .pos) refl (c .before .before .pre .1 .0), refl, refl)
+
+read-code-requires : tie.Need-read-code-requires Inv-loop μ-loop
+read-code-requires c κs = search needs
+
+enum-known-r : tie.Need-enum-known-r Inv-loop μ-loop
+enum-known-r c = search needs
+
+same-length : tie.Need-same-length Inv-loop μ-loop
+same-length c = search needs
+
+same-length-2 : tie.Need-same-length-2 Inv-loop μ-loop
+same-length-2 c = search needs
+
+returns : tie.Need-returns Inv-loop μ-loop
+returns c =
+    let l = c .before .before .before .before .before in
+    let a = l .before .before .before .args in
+    let r = c .before .before .before in
+    let e = sym (r .read-code .ensures .0) ∙ ap (codeIn (bitsOf (now (a .src)))) (c .before .r .given .1) in
+    put-none (a .hebap) (a .gk) (a .at) (now (a .src)) (bitAt (a .pos)) (now (a .values)) (now (a .exact)) _ (l .loop .values) (l .loop .exact) _
+    (cut (a .hebap) (a .gk) (a .at) (now (a .src)) (bitAt (a .pos)) (now (a .values)) (now (a .exact)) (l .loop .p) (l .loop .j) (l .loop .values) (l .loop .exact) (l .loop .inv .0) (omega arith) _ e)
+    (l .loop .inv .1) (l .loop .inv .2)
+
+enum-known-r-2 : tie.Need-enum-known-r-2 Inv-loop μ-loop
+enum-known-r-2 c = search needs
+
+-- the code that a match has taken out, and the position behind it
+code-is : (c : tie.After-known-told2 Inv-loop μ-loop) → let l = c .before .before .before .before .before in let a = l .before .before .before .args in let g = c .before .r2 .given in
+    coded (mantBits (a .hebap)) (a .gk) .dec (drop (bitAt (l .loop .p)) (bitsOf (now (a .src)))) ≡ got (g .0 .0) (drop (bitAt (g .0 .1 .0)) (bitsOf (now (a .src))))
+code-is c =
+    let r = c .before .before .before in
+    let a = r .before .before .before .before .before .args in
+    sym (r .read-code .ensures .0) ∙ ap (codeIn (bitsOf (now (a .src)))) (c .before .r2 .given .1)
+
+next-in : (c : tie.After-known-told2 Inv-loop μ-loop) → let a = c .before .before .before .before .before .before .before .before .args in Inside (8 * length (now (a .src))) (c .before .r2 .given .0 .1 .0)
+next-in c =
+    let r = c .before .before .before in
+    let a = r .before .before .before .before .before .args in
+    rw (c .before .r2 .given .1) at (r .read-code .ensures .1)
+
+level-of-requires : tie.Need-level-of-requires Inv-loop μ-loop
+level-of-requires c κs = let a = c .before .before .before .before .before .before .before .before .args in (search needs, code-fits (a .hebap) (a .gk) _ _ _ (code-is c))
+
+value-of-requires : tie.Need-value-of-requires Inv-loop μ-loop
+value-of-requires c κs = search needs
+
+add-values : tie.Need-add-values Inv-loop μ-loop
+add-values c = search needs
+
+mul-values : tie.Need-mul-values Inv-loop μ-loop
+mul-values c = search needs
+
+slice-write-values : tie.Need-slice-write-values Inv-loop μ-loop
+slice-write-values c = search needs
+
+exact-value-requires : tie.Need-exact-value-requires Inv-loop μ-loop
+exact-value-requires c κs = let k = c .before .before in let a = k .before .before .before .before .before .before .before .before .args in (search needs, code-fits (a .hebap) (a .gk) _ _ _ (code-is k))
+
+add-t17 : tie.Need-add-t17 Inv-loop μ-loop
+add-t17 c = search needs
+
+mul-t18 : tie.Need-mul-t18 Inv-loop μ-loop
+mul-t18 c = search needs
+
+slice-set-from-exact : tie.Need-slice-set-from-exact Inv-loop μ-loop
+slice-set-from-exact c = search needs
+
+add-j : tie.Need-add-j Inv-loop μ-loop
+add-j c = search needs
+
+loop-less : tie.Need-loop-less Inv-loop μ-loop
+loop-less c = search needs
+
+loop-again : tie.Need-loop-again Inv-loop μ-loop
+loop-again c =
+    let k = c .before .before .before in
+    let l = k .before .before .before .before .before in
+    let a = l .before .before .before .args in
+    let y : c .before .value-of .result ≡ valueOf (a .hebap) (a .gk) (k .before .r2 .given .0 .0) = c .before .value-of .ensures ∙ ap valueIn (c .before .before .level-of .ensures) in
+    let z = toZ-ofZ w32 (c .exact-value .result) (record { sfits = c .exact-value .ok }) ∙ c .exact-value .ensures in (
+      one-more (a .hebap) (a .gk) (a .at) (now (a .src)) (bitAt (a .pos)) (now (a .values)) (now (a .exact)) (l .loop .p) (l .loop .j) (l .loop .values) (l .loop .exact) (l .loop .inv .0) (omega arith)
+          (k .before .r2 .given .0 .0) (k .before .r2 .given .0 .1 .0) _ _ (omega arith) (omega arith) (next-in k) (code-is k) y z,
+      rw length-set (l .loop .inv .1),
+      rw length-set (l .loop .inv .2),
+    )
+
+same-length-3 : tie.Need-same-length-3 Inv-loop μ-loop
+same-length-3 c = search needs
+
+same-length-4 : tie.Need-same-length-4 Inv-loop μ-loop
+same-length-4 c = search needs
+
+returns-2 : tie.Need-returns-2 Inv-loop μ-loop
+returns-2 c =
+    let l = c .before in
+    let a = l .before .before .before .args in
+    all-six (a .hebap) (a .gk) (a .at) (now (a .src)) (bitAt (a .pos)) (now (a .values)) (now (a .exact)) (l .loop .p) (l .loop .j) (l .loop .values) (l .loop .exact) (l .loop .inv .0) (omega arith) _ refl
+
+pub read-six-spec : {M : Type 1} → statement M
+read-six-spec =
+    tie.close
+    (tie.spec
+    Inv-loop
+    μ-loop
+    loop-holds
+    read-code-requires
+    enum-known-r
+    same-length
+    same-length-2
+    returns
+    enum-known-r-2
+    level-of-requires
+    value-of-requires
+    add-values
+    mul-values
+    slice-write-values
+    exact-value-requires
+    add-t17
+    mul-t18
+    slice-set-from-exact
+    add-j
+    loop-less
+    loop-again
+    same-length-3
+    same-length-4
+    returns-2)

@@ -1,0 +1,70 @@
+-- What reading scalar mantissas answers: a code, the six codes of a bin, and read_scalar_aht_mantissas. ATSC A/52 Annex E, 3.4.4.2.
+use Prim.Native.Nat.{ℕ, _*_, _-_}
+use mathlib.Core.Path.{_≡_}
+use mathlib.Core.Bool.{Bool, cond}
+use mathlib.Core.List.{List, map}
+use lib.Dec.{eqb, leb}
+use lib.IntN.{ℤ, pos, negsuc}
+use lib.ListN.{length, drop, replicate}
+use lib.Ieee.{Float}
+use Rattle.bits.specs.Bits.{bitsOf, bitAt, posOf, splice, Inside}
+use Rattle.bits.specs.Format.{Got, got, refused, andThen}
+use Rattle.tables.specs.Tables.{mantBits}
+use Rattle.gains.specs.Gains.{gainValue}
+use Rattle.levels.specs.declared.Code.{Code}
+use Rattle.levels.specs.Codes.{six}
+use Rattle.levels.specs.Exact.{exactOf}
+use Rattle.levels.specs.Value.{f0, valueOf}
+use Rattle.scalars.specs.declared.CodeResult.{CodeResult}
+use Rattle.scalars.specs.declared.ScalarResult.{ScalarResult}
+
+-- ---- the answers: document 01's number, and the values, of each case
+-- what an answer of read_code shows of the bits bs: the code and the bits behind it, or the refusal
+abbrev pub codeIn : List Bool → CodeResult → Got Code
+codeIn bs (CodeResult.Read c p) = got c (drop (bitAt p) bs)
+codeIn bs (CodeResult.Refused k) = refused k
+
+-- its position is one of n bits
+abbrev pub CodeNext : ℕ → CodeResult → Type 0
+CodeNext n (CodeResult.Read c p) = Inside n p
+CodeNext n (CodeResult.Refused k) = Unit {0}
+
+-- the answer to what was read of n bits: the position behind it, or the refusal
+abbrev pub scalarAnswer : {A : Type 0} → ℕ → Got A → ScalarResult
+scalarAnswer n (got a rest) = ScalarResult.Done (posOf (n - length rest))
+scalarAnswer n (refused k) = ScalarResult.Refused k
+
+-- ---- the six codes of a bin
+-- what read_six leaves in its work lists: the values from a place on, where all six codes are there
+abbrev pub SixPut : ℕ → ℕ → ℕ → Got (List Code) → List Float → List Float → List ℤ → List ℤ → Type 0
+SixPut h g at (got cs rest) v v′ x x′ = (v′ ≡ splice v at (map (valueOf h g) cs)) × (x′ ≡ splice x at (map (exactOf h g) cs))
+SixPut h g at (refused k) v v′ x x′ = (length v′ ≡ length v) × (length x′ ≡ length x)
+
+-- ---- read_scalar_aht_mantissas
+-- Gk: by the gain code where gaqbin is 1, else 1
+abbrev pub gainOf : ℤ → ℕ → ℕ → ℕ
+gainOf (pos n) code mode = cond (eqb n 1) (gainValue code mode) 1
+gainOf (negsuc n) code mode = 1
+
+-- the values of the six codes that bits begin with
+abbrev pub valuesRead : ℕ → ℕ → List Bool → Got (List Float)
+valuesRead h g bs = andThen (six (mantBits h) g .dec bs) (λ cs rest. got (map (valueOf h g) cs) rest)
+
+-- the six values of a bin: hebap 0 to 7 give zeros and take no bits
+unfoldable pub binRead : ℕ → ℕ → List Bool → Got (List Float)
+binRead h g bs = cond (leb h 7) (got (replicate 6 f0) bs) (valuesRead h g bs)
+
+-- the same, for the bytes s and the bit position at: 12 for a mode above 3, 4 for a hebap above 19,
+-- 8 where the bits run out or the position is past the end
+unfoldable pub scalarsRead : List ℕ → ℕ → ℕ → ℕ → ℤ → ℕ → Got (List Float)
+scalarsRead s at h mode gaqbin code =
+    cond (leb mode 3)
+    (cond (leb h 19)
+    (cond (leb at (8 * length s)) (binRead h (gainOf gaqbin code mode) (drop at (bitsOf s))) (refused 8))
+    (refused 4))
+    (refused 12)
+
+-- the output afterwards: as it was where the call refuses
+abbrev pub scalarsAfter : List Float → Got (List Float) → List Float
+scalarsAfter out (got ys rest) = ys
+scalarsAfter out (refused k) = out

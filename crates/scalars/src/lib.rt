@@ -1,0 +1,242 @@
+// The reading of scalar mantissas: a code, the six codes of a bin, and read_scalar_aht_mantissas of the Rust.
+ghost use mathlib.Core.Path.{_≡_};
+ghost use Prim.Native.Nat.{_+_, _*_, _≤_};
+ghost use lib.ListN.{length, drop, replicate};
+ghost use Rattle.bits.specs.Bits.{bitsOf, bitAt, Inside};
+ghost use Rattle.tables.specs.Tables.{mantBits};
+ghost use Rattle.levels.specs.Codes.{tagged, coded, six};
+ghost use Rattle.levels.specs.Value.{f0};
+ghost use Rattle.scalars.specs.Scalars.{codeIn, CodeNext, scalarAnswer, SixPut, gainOf, valuesRead, binRead, scalarsRead, scalarsAfter};
+use bits::BitPos;
+use bits::BitRead;
+use levels::Code;
+
+// What read_code answers: the code and the advanced position, or the number of the refusal.
+pub enum CodeResult {
+    Read(Code, BitPos),
+    Refused(u8),
+}
+
+// What the readers of six codes answer: the advanced position, or the number of the refusal.
+pub enum ScalarResult {
+    Done(BitPos),
+    Refused(u8),
+}
+
+// s in w bits; the tag is followed by l in v bits.
+fn read_tagged(src: &[u8], pos: BitPos, w: u32, v: u32) -> CodeResult
+    requires { ⌜ (1 ≤ w) × (w ≤ 16) × (v ≤ 16) ⌝ }
+    requires { ⌜ bitAt pos ≤ 8 * length (now src) ⌝ }
+    ensures { λ r. ⌜ codeIn (bitsOf (now (src .entry))) r ≡ tagged w v .dec (drop (bitAt pos) (bitsOf (now (src .entry)))) ⌝ }
+    ensures { λ r. ⌜ CodeNext (8 * length (now (src .entry))) r ⌝ }
+{
+    let first = pos.read_u32(src, w);
+    match first {
+        BitRead::Refused(k) => CodeResult::Refused(k),
+        BitRead::Number(s, next) => {
+            if s == levels::two_to(w - 1) {
+                let second = next.read_u32(src, v);
+                match second {
+                    BitRead::Refused(k) => CodeResult::Refused(k),
+                    BitRead::Number(l, end) => CodeResult::Read(Code::Large(l), end),
+                }
+            } else {
+                CodeResult::Read(Code::Small(s), next)
+            }
+        }
+    }
+}
+
+// A code of the hebap at the gain.
+pub fn read_code(src: &[u8], pos: BitPos, hebap: u8, gk: u8) -> CodeResult
+    requires { ⌜ (8 ≤ hebap) × (hebap ≤ 19) ⌝ }
+    requires { ⌜ bitAt pos ≤ 8 * length (now src) ⌝ }
+    ensures { λ r. ⌜ codeIn (bitsOf (now (src .entry))) r ≡ coded (mantBits hebap) gk .dec (drop (bitAt pos) (bitsOf (now (src .entry)))) ⌝ }
+    ensures { λ r. ⌜ CodeNext (8 * length (now (src .entry))) r ⌝ }
+{
+    let m = levels::mant(hebap);
+    if gk == 1 {
+        let r = pos.read_u32(src, m);
+        match r {
+            BitRead::Refused(k) => CodeResult::Refused(k),
+            BitRead::Number(l, next) => CodeResult::Read(Code::Large(l), next),
+        }
+    } else {
+        read_tagged(
+            src,
+            pos,
+            levels::small_bits(m, gk),
+            levels::large_bits(m, gk),
+        )
+    }
+}
+
+// The six codes of a bin: their f32 and exact values go to the places from `at` on. Where the bits run out, what was read before stands there.
+pub fn read_six(
+    src: &[u8],
+    pos: BitPos,
+    hebap: u8,
+    gk: u8,
+    at: usize,
+    values: &mut [f32],
+    exact: &mut [i32],
+) -> ScalarResult
+    requires { ⌜ (8 ≤ hebap) × (hebap ≤ 19) ⌝ }
+    requires { ⌜ Inside (8 * length (now src)) pos ⌝ }
+    requires { ⌜ (at + 6 ≤ length (now values)) × (at + 6 ≤ length (now exact)) ⌝ }
+    ensures { λ r. ⌜ r ≡ scalarAnswer (8 * length (now (src .entry))) (six (mantBits hebap) gk .dec (drop (bitAt pos) (bitsOf (now (src .entry))))) ⌝ }
+    ensures { λ r. ⌜ SixPut hebap gk at (six (mantBits hebap) gk .dec (drop (bitAt pos) (bitsOf (now (src .entry))))) (now (values .entry)) (now (values .exit)) (now (exact .entry)) (now (exact .exit)) ⌝ }
+{
+    let mut p = pos;
+    let mut j: usize = 0;
+    while j < 6 {
+        let r = read_code(src, p, hebap, gk);
+        match r {
+            CodeResult::Refused(k) => {
+                return ScalarResult::Refused(k);
+            }
+            CodeResult::Read(code, next) => {
+                values[at + j] = levels::value_of(levels::level_of(hebap, gk, code));
+                exact[at + j] = levels::exact_value(hebap, gk, code);
+                p = next;
+                j += 1;
+            }
+        }
+    }
+    ScalarResult::Done(p)
+}
+
+// Gk of a bin.
+fn gain_of(gaqbin: i8, gain_code: u8, gaqmod: u8) -> u8
+    ensures { λ r. ⌜ r ≡ gainOf gaqbin «gain_code» gaqmod ⌝ }
+{
+    if gaqbin == 1 {
+        return gains::gain_value(gain_code, gaqmod);
+    }
+    1
+}
+
+fn copy(from: &[f32], out: &mut [f32])
+    requires { ⌜ length (now from) ≡ length (now out) ⌝ }
+    ensures { λ r. ⌜ now (out .exit) ≡ now (from .entry) ⌝ }
+{
+    let mut j: usize = 0;
+    while j < out.len() {
+        out[j] = from[j];
+        j += 1;
+    }
+}
+
+// The six values of a bin, with room to work in: the output is written only when all six codes are there.
+fn read_values(
+    src: &[u8],
+    pos: BitPos,
+    hebap: u8,
+    gk: u8,
+    out: &mut [f32],
+    values: &mut [f32],
+    exact: &mut [i32],
+) -> ScalarResult
+    requires { ⌜ (8 ≤ hebap) × (hebap ≤ 19) ⌝ }
+    requires { ⌜ Inside (8 * length (now src)) pos ⌝ }
+    requires { ⌜ (length (now out) ≡ 6) × (length (now values) ≡ 6) × (length (now exact) ≡ 6) ⌝ }
+    ensures { λ r. ⌜ r ≡ scalarAnswer (8 * length (now (src .entry))) (valuesRead hebap gk (drop (bitAt pos) (bitsOf (now (src .entry))))) ⌝ }
+    ensures { λ r. ⌜ now (out .exit) ≡ scalarsAfter (now (out .entry)) (valuesRead hebap gk (drop (bitAt pos) (bitsOf (now (src .entry))))) ⌝ }
+{
+    let r = read_six(src, pos, hebap, gk, 0, &mut *values, &mut *exact);
+    match r {
+        ScalarResult::Refused(k) => ScalarResult::Refused(k),
+        ScalarResult::Done(next) => {
+            copy(&*values, &mut *out);
+            ScalarResult::Done(next)
+        }
+    }
+}
+
+// The same for any hebap up to 19, with zeros in the room to work in.
+fn read_bin(
+    src: &[u8],
+    pos: BitPos,
+    hebap: u8,
+    gk: u8,
+    out: &mut [f32],
+    values: &mut [f32],
+    exact: &mut [i32],
+) -> ScalarResult
+    requires { ⌜ hebap ≤ 19 ⌝ }
+    requires { ⌜ Inside (8 * length (now src)) pos ⌝ }
+    requires { ⌜ (length (now out) ≡ 6) × (now values ≡ replicate 6 f0) × (length (now exact) ≡ 6) ⌝ }
+    ensures { λ r. ⌜ r ≡ scalarAnswer (8 * length (now (src .entry))) (binRead hebap gk (drop (bitAt pos) (bitsOf (now (src .entry))))) ⌝ }
+    ensures { λ r. ⌜ now (out .exit) ≡ scalarsAfter (now (out .entry)) (binRead hebap gk (drop (bitAt pos) (bitsOf (now (src .entry))))) ⌝ }
+{
+    if hebap < 8 {
+        copy(&*values, &mut *out);
+        return ScalarResult::Done(pos);
+    }
+    read_values(src, pos, hebap, gk, &mut *out, &mut *values, &mut *exact)
+}
+
+fn read_with(
+    src: &[u8],
+    pos: BitPos,
+    hebap: u8,
+    gaqmod: u8,
+    gaqbin: i8,
+    gain_code: u8,
+    out: &mut [f32],
+    values: &mut [f32],
+    exact: &mut [i32],
+) -> ScalarResult
+    requires { ⌜ (length (now out) ≡ 6) × (now values ≡ replicate 6 f0) × (length (now exact) ≡ 6) ⌝ }
+    ensures { λ r. ⌜ r ≡ scalarAnswer (8 * length (now (src .entry))) (scalarsRead (now (src .entry)) (bitAt pos) hebap gaqmod gaqbin «gain_code») ⌝ }
+    ensures { λ r. ⌜ now (out .exit) ≡ scalarsAfter (now (out .entry)) (scalarsRead (now (src .entry)) (bitAt pos) hebap gaqmod gaqbin «gain_code») ⌝ }
+{
+    if 3 < gaqmod {
+        return ScalarResult::Refused(12);
+    }
+    if 19 < hebap {
+        return ScalarResult::Refused(4);
+    }
+    if pos.holds(src.len(), 1, 0) {
+        let gk = gain_of(gaqbin, gain_code, gaqmod);
+        read_bin(
+            src,
+            pos.after(1, 0),
+            hebap,
+            gk,
+            &mut *out,
+            &mut *values,
+            &mut *exact,
+        )
+    } else {
+        ScalarResult::Refused(8)
+    }
+}
+
+// Reads the six mantissas of a bin. Refuses with 12 a mode above 3, then with 4 a hebap above 19, then with 8; a refusal leaves the output as it was.
+pub fn read_scalar_aht_mantissas(
+    src: &[u8],
+    pos: BitPos,
+    hebap: u8,
+    gaqmod: u8,
+    gaqbin: i8,
+    gain_code: u8,
+    out: &mut [f32; 6],
+) -> ScalarResult
+    ensures { λ r. ⌜ r ≡ scalarAnswer (8 * length (now (src .entry))) (scalarsRead (now (src .entry)) (bitAt pos) hebap gaqmod gaqbin «gain_code») ⌝ }
+    ensures { λ r. ⌜ now (out .exit) ≡ scalarsAfter (now (out .entry)) (scalarsRead (now (src .entry)) (bitAt pos) hebap gaqmod gaqbin «gain_code») ⌝ }
+{
+    let mut values = [0.0f32; 6];
+    let mut exact = [0i32; 6];
+    read_with(
+        src,
+        pos,
+        hebap,
+        gaqmod,
+        gaqbin,
+        gain_code,
+        &mut *out,
+        &mut values,
+        &mut exact,
+    )
+}

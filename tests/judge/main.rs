@@ -1,0 +1,80 @@
+//! Compares the proved calls with the Rust that they were ported from: results, refusals, positions and every lent byte.
+//! The handed-over files stand beside this one under eac3/, unchanged. Its word is the seed.
+#![allow(dead_code)]
+
+/// What ahtenc.rs takes from files that were not handed over; none of it is called.
+mod audblk {
+    pub const N_COEFFS: usize = 256;
+}
+mod encoder {
+    pub struct BitAllocParams;
+    pub struct DbaPlan;
+    pub fn compute_bap_table(_: &[u8; 256], _: usize, _: u8, _: &BitAllocParams, _: &mut [u8; 256], _: Option<(&DbaPlan, usize)>, _: &[u8; 64]) {}
+}
+mod eac3 {
+    pub mod aht;
+    pub mod ahtenc;
+    pub mod tables {
+        pub mod aht_codebooks;
+    }
+}
+#[cfg(not(record))]
+mod foundations;
+#[cfg(not(record))]
+mod ours;
+mod random;
+#[cfg(record)]
+mod record;
+
+fn seed() -> u64 {
+    std::env::args().nth(1).and_then(|s| s.parse().ok()).unwrap_or(1)
+}
+
+/// Built with --cfg record it needs no proved library: it writes the Rust's answers to the file that the second word names.
+#[cfg(record)]
+fn main() {
+    record::write(seed(), &std::env::args().nth(2).expect("a file to write"));
+}
+
+#[cfg(not(record))]
+fn main() {
+    let seed = seed();
+    println!("compare: seed {seed}");
+    let mut all = Tally::default();
+    foundations::run(seed, &mut all);
+    println!("compare: {} cases, {} different", all.cases, all.different);
+    if all.different > 0 {
+        std::process::exit(1);
+    }
+}
+
+/// The cases of one function, or of all.
+#[derive(Default)]
+pub struct Tally {
+    pub name: &'static str,
+    pub cases: u64,
+    pub different: u64,
+}
+
+impl Tally {
+    pub fn of(name: &'static str) -> Self {
+        Tally { name, cases: 0, different: 0 }
+    }
+
+    /// Counts a case; the first few that differ are shown.
+    pub fn case(&mut self, same: bool, what: impl FnOnce() -> String) {
+        self.cases += 1;
+        if !same {
+            self.different += 1;
+            if self.different <= 5 {
+                println!("compare: {}: {}", self.name, what());
+            }
+        }
+    }
+
+    pub fn close(self, all: &mut Tally) {
+        println!("compare: {:<28} {:>10} cases, {} different", self.name, self.cases, self.different);
+        all.cases += self.cases;
+        all.different += self.different;
+    }
+}

@@ -1,0 +1,201 @@
+//! The recorded answers that crates/replay replays: calls with what the Rust answers, 128 bytes each, least significant byte first.
+//!
+//! 0 function, 1 refusal, 2 to 5 small arguments, 6 length of the input, 7 places of the output, 8 position's byte (8 bytes), 16 its
+//! bit (4), 20 a number of 32 bits, 24 one of 64, 32 the input (24), 56 the output before (24), 80 the output after (24), 104 the
+//! value, 112 and 120 the position after. A refused call has its value 0 and its position and output as they were.
+use crate::eac3::aht;
+use crate::random::Random;
+use oxideav_core::bits::{BitReader, BitWriter};
+use std::io::Write;
+
+struct Record([u8; 128]);
+
+impl Record {
+    fn new(function: u8) -> Self {
+        let mut r = [0; 128];
+        r[0] = function;
+        Record(r)
+    }
+    fn args(mut self, args: &[u8]) -> Self {
+        self.0[2..2 + args.len()].copy_from_slice(args);
+        self
+    }
+    fn src(mut self, src: &[u8]) -> Self {
+        self.0[6] = src.len() as u8;
+        self.0[32..32 + src.len()].copy_from_slice(src);
+        self
+    }
+    fn at(mut self, at: usize) -> Self {
+        self.0[8..16].copy_from_slice(&(at / 8).to_le_bytes());
+        self.0[16..20].copy_from_slice(&((at % 8) as u32).to_le_bytes());
+        self
+    }
+    fn arg32(mut self, v: u32) -> Self {
+        self.0[20..24].copy_from_slice(&v.to_le_bytes());
+        self
+    }
+    fn arg64(mut self, v: usize) -> Self {
+        self.0[24..32].copy_from_slice(&v.to_le_bytes());
+        self
+    }
+    fn out(mut self, before: &[u8], after: &[u8]) -> Self {
+        self.0[7] = before.len() as u8;
+        self.0[56..56 + before.len()].copy_from_slice(before);
+        self.0[80..80 + after.len()].copy_from_slice(after);
+        self
+    }
+    fn answer(mut self, refusal: u8, value: usize, next: usize) -> Self {
+        self.0[1] = refusal;
+        self.0[104..112].copy_from_slice(&value.to_le_bytes());
+        self.0[112..120].copy_from_slice(&(next / 8).to_le_bytes());
+        self.0[120..124].copy_from_slice(&((next % 8) as u32).to_le_bytes());
+        self
+    }
+}
+
+/// 250 calls of each function.
+pub fn write(seed: u64, path: &str) {
+    let mut random = Random::new(seed);
+    let mut out = Vec::new();
+    for f in 1..=9u8 {
+        for i in 0..250 {
+            out.push(one(f, i, &mut random));
+        }
+    }
+    let mut file = std::fs::File::create(path).expect("the list can be written");
+    for r in &out {
+        file.write_all(&r.0).expect("the list can be written");
+    }
+    println!("record: {} answers of the Rust, seed {seed}", out.len());
+}
+
+fn one(f: u8, i: usize, random: &mut Random) -> Record {
+    let len = random.below(25);
+    let src = random.bytes(len);
+    let at = random.below(8 * len + 3);
+    match f {
+        // read_u32
+        1 => {
+            let n = random.below(35) as u32;
+            let r = Record::new(f).src(&src).at(at).arg32(n);
+            if n > 32 {
+                return r.answer(12, 0, at);
+            }
+            match BitReader::at(&src, at).and_then(|mut b| b.read_u32(n)) {
+                Ok(v) => r.answer(0, v as usize, at + n as usize),
+                Err(_) => r.answer(8, 0, at),
+            }
+        }
+        // write_u32
+        2 => {
+            let n = random.below(35) as u32;
+            let v = random.next() as u32;
+            let r = Record::new(f).at(at).arg32(v).args(&[n as u8]);
+            if n > 32 {
+                return r.out(&src, &src).answer(12, 0, at);
+            }
+            if at + n as usize > 8 * len {
+                return r.out(&src, &src).answer(7, 0, at);
+            }
+            let mut w = BitWriter::new();
+            let mut b = BitReader::new(&src);
+            for _ in 0..at {
+                w.write_u32(b.read_u32(1).unwrap(), 1);
+            }
+            w.write_u32(v, n);
+            let mut b = BitReader::at(&src, at + n as usize).unwrap();
+            while let Ok(bit) = b.read_u32(1) {
+                w.write_u32(bit, 1);
+            }
+            r.out(&src, &w.finish()).answer(0, 0, at + n as usize)
+        }
+        // hebap_from_address
+        3 => {
+            let psd = random.next() as i16;
+            let mask = match i % 5 {
+                0 => random.pick(&[65536, 65537, -65536, -65537, i32::MAX, i32::MIN]),
+                _ => i32::from(psd) - random.below(2300) as i32 + 100,
+            };
+            let r = Record::new(f).args(&psd.to_le_bytes()).arg32(mask as u32);
+            if (-65536..=65536).contains(&mask) {
+                r.answer(0, aht::hebap_from_address(psd, mask) as usize, 0)
+            } else {
+                r.answer(12, 0, 0)
+            }
+        }
+        // endbap_for_gaqmod
+        4 => {
+            let mode = i as u8;
+            let r = Record::new(f).args(&[mode]);
+            if mode > 3 { r.answer(12, 0, 0) } else { r.answer(0, aht::endbap_for_gaqmod(mode) as usize, 0) }
+        }
+        // fill_gaqbin
+        5 => {
+            let row: Vec<u8> = src.iter().map(|b| b % 21).collect();
+            let mode = random.below(5) as u8;
+            let places = random.below(25);
+            let before = random.bytes(places);
+            let mut given: Vec<i8> = before.iter().map(|&b| b as i8).collect();
+            let r = Record::new(f).src(&row).args(&[mode]);
+            if mode > 3 {
+                return r.out(&before, &before).answer(12, 0, 0);
+            }
+            let active = aht::fill_gaqbin(&row, mode, &mut given);
+            let after: Vec<u8> = given.iter().map(|&b| b as u8).collect();
+            r.out(&before, &after).answer(0, active, 0)
+        }
+        // gaq_sections
+        6 => {
+            let mode = random.below(5) as u8;
+            let active = if i % 3 == 0 { random.next() as usize } else { random.below(300) };
+            let r = Record::new(f).args(&[mode]).arg64(active);
+            if mode > 3 { r.answer(12, 0, 0) } else { r.answer(0, aht::gaq_sections(mode, active), 0) }
+        }
+        // gaq_gain_value
+        7 => {
+            let (code, mode) = ((i / 5) as u8, (i % 5) as u8);
+            let r = Record::new(f).args(&[code, mode]);
+            if mode > 3 { r.answer(12, 0, 0) } else { r.answer(0, aht::gaq_gain_value(code, mode) as usize, 0) }
+        }
+        // read_gaq_gains
+        8 => {
+            let mode = random.below(5) as u8;
+            let sections = random.below(30);
+            let places = random.below(25);
+            let before = random.bytes(places);
+            let mut given = before.clone();
+            let r = Record::new(f).src(&src).at(at).args(&[mode]).arg64(sections);
+            if mode > 3 {
+                return r.out(&before, &before).answer(12, 0, at);
+            }
+            let read = BitReader::at(&src, at).and_then(|mut b| aht::read_gaq_gains(&mut b, mode, sections, &mut given).map(|n| (n, b.taken())));
+            match read {
+                Ok((n, end)) => r.out(&before, &given).answer(0, n, end),
+                Err(_) => r.out(&before, &before).answer(8, 0, at),
+            }
+        }
+        // read_scalar_aht_mantissas
+        _ => {
+            let (hebap, mode, code) = (random.below(22) as u8, random.below(5) as u8, random.below(4) as u8);
+            let gaqbin = random.pick(&[1i8, 1, 0, -1]);
+            let at = at / 3;
+            let before = vec![0x42u8; 24];
+            let mut given = [0f32; 6];
+            let r = Record::new(f).src(&src).at(at).args(&[hebap, mode, gaqbin as u8, code]);
+            if mode > 3 {
+                return r.out(&before, &before).answer(12, 0, at);
+            }
+            if hebap > 19 {
+                return r.out(&before, &before).answer(4, 0, at);
+            }
+            let read = BitReader::at(&src, at).and_then(|mut b| aht::read_scalar_aht_mantissas(&mut b, hebap, mode, gaqbin, code, &mut given).map(|()| b.taken()));
+            match read {
+                Ok(end) => {
+                    let after: Vec<u8> = given.iter().flat_map(|y| y.to_bits().to_le_bytes()).collect();
+                    r.out(&before, &after).answer(0, 0, end)
+                }
+                Err(_) => r.out(&before, &before).answer(8, 0, at),
+            }
+        }
+    }
+}

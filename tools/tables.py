@@ -1,0 +1,106 @@
+#!/usr/bin/env python3
+"""The tables of crates/tables, made from the Rust's text, or compared with it.
+
+  tables.py FOLDER            writes the Rattle constants and the definitions' lists
+  tables.py FOLDER --check    compares them number by number; exit status 1 where one differs
+
+FOLDER holds src--src--eac3--aht.rs.txt and src--src--eac3--tables--aht_codebooks.rs.txt.
+"""
+import os, re, sys
+
+ROOT = os.path.dirname(os.path.dirname(os.path.abspath(__file__)))
+CODE = os.path.join(ROOT, 'crates/tables/src/consts.rt')
+SPEC = os.path.join(ROOT, 'crates/tables/specs/Numbers.antt')
+
+
+def rust(folder):
+    """Name, element type and numbers of each table, read off the Rust's text."""
+    aht = open(os.path.join(folder, 'src--src--eac3--aht.rs.txt'), encoding='utf-8').read()
+    books = open(os.path.join(folder, 'src--src--eac3--tables--aht_codebooks.rs.txt'), encoding='utf-8').read()
+    plain = lambda text: re.sub(r'//[^\n]*|/\*.*?\*/', '', text, flags=re.S)
+    out = []
+    for name in ('HEBAPTAB', 'HEBAP_MANT_BITS', 'VQ_BITS'):
+        body = re.search(r'pub const %s: \[u8; \d+\] = \[(.*?)\];' % name, plain(aht), re.S).group(1)
+        out.append((name, 'u8', [int(x) for x in re.findall(r'\d+', body)]))
+    # seven numbers a row: a at Gk 1; a, b for x >= 0, b for x < 0 at Gk 2; the same at Gk 4
+    body = re.search(r'const GAQ_REMAP: \[GaqRemap; 12\] = \[(.*?)\n\];', plain(aht), re.S).group(1)
+    row = re.compile(r'a_g1: (\w+), g2: \(([^)]*)\), g4: \(([^)]*)\)')
+    remap = []
+    for a, g2, g4 in row.findall(body.replace('u16 as i16', '')):
+        for x in [a] + g2.split(',') + g4.split(','):
+            v = int(x.strip(), 0)
+            remap.append(v - 65536 if v > 32767 else v)
+    out.append(('GAQ_REMAP', 'i16', remap))
+    for h in range(1, 8):
+        body = re.search(r'pub const VQ_HEBAP%d: \[\[i16; 6\]; \d+\] = \[(.*?)\n\];' % h, plain(books), re.S).group(1)
+        out.append(('VQ_HEBAP%d' % h, 'i16', [int(x) for x in re.findall(r'-?\d+', body)]))
+    return out
+
+
+def spec_name(name):
+    given = {'HEBAPTAB': 'hebaptab', 'HEBAP_MANT_BITS': 'mantBitsTable', 'VQ_BITS': 'vqBitsTable', 'GAQ_REMAP': 'gaqRemapTable'}
+    return given.get(name) or name.lower().replace('_h', 'H')
+
+
+SECTION = {'HEBAPTAB': 'Table E3.1', 'HEBAP_MANT_BITS': 'Table E3.2', 'VQ_BITS': 'Table E3.2, hebap 1 to 7',
+           'GAQ_REMAP': 'Table E3.6: a row has a at Gk 1; a, b for x ≥ 0, b for x < 0 at Gk 2; the same at Gk 4. Rows hebap 8 to 19'}
+SECTION.update({'VQ_HEBAP%d' % h: 'Table E4.%d, six numbers a vector' % h for h in range(1, 8)})
+
+
+def code_text(tables):
+    lines = ['// The tables of ATSC A/52 Annex E as the Rust has them, each flat. Made by tools/tables.py.']
+    for name, kind, numbers in tables:
+        head = 'pub const %s: [%s; %d] = [' % (name, kind, len(numbers))
+        lines += ['', '// %s.' % SECTION[name].replace('≥', '>=')]
+        # as the formatter has it: one number to a line, unless all go on one
+        lines += [head + ', '.join(map(str, numbers)) + '];'] if len(numbers) <= 8 else [head] + ['    %d,' % x for x in numbers] + ['];']
+    return '\n'.join(lines) + '\n'
+
+
+def spec_text(tables):
+    lines = ['-- The tables of ATSC A/52 Annex E, section 3.4, each flat. Made by tools/tables.py.',
+             'use mathlib.Core.List.{List, [], _∷_}', 'use Prim.Native.Nat.{ℕ}', 'use lib.IntN.{ℤ, pos, negℤ}', '',
+             'abbrev neg : ℕ → ℤ', 'neg n = negℤ (pos n)']
+    for name, kind, numbers in tables:
+        signed = kind == 'i16'
+        say = lambda x: str(x) if not signed else ('pos %d' % x if x >= 0 else 'neg %d' % -x)
+        width = 7 if name == 'GAQ_REMAP' else 6 if signed else 16
+        lines += ['', '-- ' + SECTION[name], 'unfoldable pub %s : List %s' % (spec_name(name), 'ℤ' if signed else 'ℕ'), '%s =' % spec_name(name)]
+        for i in range(0, len(numbers), width):
+            lines.append('    ' + ' ∷ '.join(say(x) for x in numbers[i:i + width]) + ' ∷')
+        lines.append('    []')
+    return '\n'.join(lines) + '\n'
+
+
+def ours():
+    """The same, read off the repository's own files."""
+    code = open(CODE, encoding='utf-8').read()
+    spec = open(SPEC, encoding='utf-8').read()
+    from_code = {n: (k, [int(x) for x in re.findall(r'-?\d+', body)])
+                 for n, k, body in re.findall(r'pub const (\w+): \[(\w+); \d+\] = \[(.*?)\];', code, re.S)}
+    from_spec = {}
+    for n, body in re.findall(r'unfoldable pub (\w+) : List .\n\1 =\n(.*?)\[\]', spec, re.S):
+        from_spec[n] = [int(x.split()[-1]) * (-1 if x.startswith('neg') else 1) for x in re.findall(r'pos \d+|neg \d+|\d+', body)]
+    return from_code, from_spec
+
+
+def main():
+    tables = rust(sys.argv[1])
+    assert [len(t[2]) for t in tables] == [64, 20, 8, 84, 24, 48, 96, 192, 768, 1536, 3072], 'the Rust text was not read whole'
+    if '--check' not in sys.argv:
+        open(CODE, 'w', encoding='utf-8').write(code_text(tables))
+        open(SPEC, 'w', encoding='utf-8').write(spec_text(tables))
+        return
+    code, spec = ours()
+    numbers = wrong = 0
+    for name, kind, want in tables:
+        for where, got in (('constant', code.get(name, (None, []))[1]), ('definition', spec.get(spec_name(name), []))):
+            bad = abs(len(want) - len(got)) + sum(a != b for a, b in zip(want, got))
+            numbers += len(want)
+            wrong += bad
+            if bad: print('tables: %s, %s: %d numbers differ' % (name, where, bad))
+    print('tables: %d numbers compared with the Rust, %d different' % (numbers, wrong))
+    sys.exit(1 if wrong else 0)
+
+
+main()
