@@ -2,7 +2,7 @@
 //! The handed-over files stand beside this one under eac3/, unchanged. Its word is the seed.
 #![allow(dead_code)]
 
-/// What ahtenc.rs takes from files that were not handed over; none of it is called.
+/// What ahtenc.rs takes from audblk.rs, which rests on files that were not handed over, and from encoder.rs, which is one of them; none of it is called.
 mod audblk {
     pub const N_COEFFS: usize = 256;
 }

@@ -1,4 +1,6 @@
 //! The recorded answers that crates/replay replays: calls with what the Rust answers, 128 bytes each, least significant byte first.
+//! crates/replay/stdin was made by `tests/compare ../shared/docs/src 20261115 record`. read_u32 and write_u32 are the stand-in's
+//! answers; the numbers of refusals are document 01's.
 //!
 //! 0 function, 1 refusal, 2 to 5 small arguments, 6 length of the input, 7 places of the output, 8 position's byte (8 bytes), 16 its
 //! bit (4), 20 a number of 32 bits, 24 one of 64, 32 the input (24), 56 the output before (24), 80 the output after (24), 104 the
@@ -25,9 +27,11 @@ impl Record {
         self.0[32..32 + src.len()].copy_from_slice(src);
         self
     }
-    fn at(mut self, at: usize) -> Self {
-        self.0[8..16].copy_from_slice(&(at / 8).to_le_bytes());
-        self.0[16..20].copy_from_slice(&((at % 8) as u32).to_le_bytes());
+    /// The position; `over` bytes of it are said in bits, so that the bit is 8 or more.
+    fn at(mut self, at: usize, over: usize) -> Self {
+        let over = over.min(at / 8);
+        self.0[8..16].copy_from_slice(&(at / 8 - over).to_le_bytes());
+        self.0[16..20].copy_from_slice(&((at % 8 + 8 * over) as u32).to_le_bytes());
         self
     }
     fn arg32(mut self, v: u32) -> Self {
@@ -73,11 +77,12 @@ fn one(f: u8, i: usize, random: &mut Random) -> Record {
     let len = random.below(25);
     let src = random.bytes(len);
     let at = random.below(8 * len + 3);
+    let over = if i % 7 == 0 { random.below(4) } else { 0 };
     match f {
         // read_u32
         1 => {
             let n = random.below(35) as u32;
-            let r = Record::new(f).src(&src).at(at).arg32(n);
+            let r = Record::new(f).src(&src).at(at, over).arg32(n);
             if n > 32 {
                 return r.answer(12, 0, at);
             }
@@ -90,7 +95,7 @@ fn one(f: u8, i: usize, random: &mut Random) -> Record {
         2 => {
             let n = random.below(35) as u32;
             let v = random.next() as u32;
-            let r = Record::new(f).at(at).arg32(v).args(&[n as u8]);
+            let r = Record::new(f).at(at, over).arg32(v).args(&[n as u8]);
             if n > 32 {
                 return r.out(&src, &src).answer(12, 0, at);
             }
@@ -160,11 +165,11 @@ fn one(f: u8, i: usize, random: &mut Random) -> Record {
         // read_gaq_gains
         8 => {
             let mode = random.below(5) as u8;
-            let sections = random.below(30);
+            let sections = if i % 25 == 0 { usize::MAX - random.below(2) } else { random.below(30) };
             let places = random.below(25);
             let before = random.bytes(places);
             let mut given = before.clone();
-            let r = Record::new(f).src(&src).at(at).args(&[mode]).arg64(sections);
+            let r = Record::new(f).src(&src).at(at, over).args(&[mode]).arg64(sections);
             if mode > 3 {
                 return r.out(&before, &before).answer(12, 0, at);
             }
@@ -174,28 +179,56 @@ fn one(f: u8, i: usize, random: &mut Random) -> Record {
                 Err(_) => r.out(&before, &before).answer(8, 0, at),
             }
         }
-        // read_scalar_aht_mantissas
+        // read_scalar_aht_mantissas: first every hebap and gain, with codes chosen so that half of them are behind the tag
+        _ if i < 216 => {
+            let (hebap, gain) = (8 + (i % 36 / 3) as u8, i % 3);
+            let m = u32::from(aht::HEBAP_MANT_BITS[hebap as usize]);
+            let (mode, code, small, large) = [(0, 0, 0, m), (1, 1, m - 1, m - 1), (2 + (i / 36 % 2) as u8, 2, m - 2, m)][gain];
+            let at = random.below(8);
+            let mut w = BitWriter::new();
+            w.write_u32(random.next() as u32, at as u32);
+            for _ in 0..6 {
+                let ends = [0, (1u32 << large) - 1, 1 << (large - 1), (1 << (large - 1)) - 1];
+                let l = if random.below(3) == 0 { random.pick(&ends) } else { random.below(1 << large) as u32 };
+                if small == 0 {
+                    w.write_u32(l, large);
+                } else if random.below(2) == 0 {
+                    w.write_u32(1 << (small - 1), small);
+                    w.write_u32(l, large);
+                } else {
+                    w.write_u32(random.below(1 << small) as u32, small);
+                    w.write_u32(l, large);
+                }
+            }
+            let mut src = w.finish();
+            src.truncate(24);
+            scalar(f, &src, at, over, hebap, mode, 1, code)
+        }
         _ => {
             let (hebap, mode, code) = (random.below(22) as u8, random.below(5) as u8, random.below(4) as u8);
             let gaqbin = random.pick(&[1i8, 1, 0, -1]);
-            let at = at / 3;
-            let before = vec![0x42u8; 24];
-            let mut given = [0f32; 6];
-            let r = Record::new(f).src(&src).at(at).args(&[hebap, mode, gaqbin as u8, code]);
-            if mode > 3 {
-                return r.out(&before, &before).answer(12, 0, at);
-            }
-            if hebap > 19 {
-                return r.out(&before, &before).answer(4, 0, at);
-            }
-            let read = BitReader::at(&src, at).and_then(|mut b| aht::read_scalar_aht_mantissas(&mut b, hebap, mode, gaqbin, code, &mut given).map(|()| b.taken()));
-            match read {
-                Ok(end) => {
-                    let after: Vec<u8> = given.iter().flat_map(|y| y.to_bits().to_le_bytes()).collect();
-                    r.out(&before, &after).answer(0, 0, end)
-                }
-                Err(_) => r.out(&before, &before).answer(8, 0, at),
-            }
+            scalar(f, &src, at / 3, over, hebap, mode, gaqbin, code)
         }
+    }
+}
+
+#[allow(clippy::too_many_arguments)]
+fn scalar(f: u8, src: &[u8], at: usize, over: usize, hebap: u8, mode: u8, gaqbin: i8, code: u8) -> Record {
+    let before = vec![0x42u8; 24];
+    let mut given = [0f32; 6];
+    let r = Record::new(f).src(src).at(at, over).args(&[hebap, mode, gaqbin as u8, code]);
+    if mode > 3 {
+        return r.out(&before, &before).answer(12, 0, at);
+    }
+    if hebap > 19 {
+        return r.out(&before, &before).answer(4, 0, at);
+    }
+    let read = BitReader::at(src, at).and_then(|mut b| aht::read_scalar_aht_mantissas(&mut b, hebap, mode, gaqbin, code, &mut given).map(|()| b.taken()));
+    match read {
+        Ok(end) => {
+            let after: Vec<u8> = given.iter().flat_map(|y| y.to_bits().to_le_bytes()).collect();
+            r.out(&before, &after).answer(0, 0, end)
+        }
+        Err(_) => r.out(&before, &before).answer(8, 0, at),
     }
 }

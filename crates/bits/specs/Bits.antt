@@ -51,7 +51,7 @@ bitAt p = 8 * p .byte + p .bit
 abbrev pub posOf : ℕ → BitPos
 posOf k = record { byte = k / 8; bit = k % 8 }
 
--- a position in the first n bits, written in the one way
+-- a position in the first n bits or just behind them, its bit below 8
 abbrev pub Inside : ℕ → BitPos → Type 0
 Inside n p = (bitAt p ≤ n) × (p .bit < 8)
 

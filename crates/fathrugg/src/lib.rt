@@ -89,7 +89,7 @@ pub extern "C" fn fathrugg_hebap_from_address(psd: i16, mask: i32, hebap: &mut u
     }
 }
 
-// The first hebap without a gain. Refusal 12.
+// Bins of hebap 8 up to this one, not included, are marked. Refusal 12.
 #[no_mangle]
 pub extern "C" fn fathrugg_endbap_for_gaqmod(gaqmod: u8, endbap: &mut u8) -> u8
     ensures { λ r. ⌜ r ≡ byteNumber (endbapForGaqmod gaqmod) ⌝ }

@@ -14,14 +14,14 @@ use Rattle.gains.specs.declared.GainsResult.{GainsResult}
 use Rattle.gains.specs.declared.GainsResult.the-variants.{Codes}
 
 -- ---- which bins have a gain (3.4.2)
--- gains are for hebap 8 up to endbap, not included
+-- gains are for hebap 8 up to endbap, not included; mode 0 has the endbap of mode 1, though no gain is read there
 unfoldable pub endbap : ℕ → ℕ
 endbap mode = cond (ltb mode 2) 12 17
 
 abbrev pub marked : ℕ → ℕ → Bool
 marked mode h = ltb 7 h && ltb h (endbap mode)
 
--- chgaqbin: 1 where a gain word is there for the bin, -1 where hebap is too high for one, else 0
+-- chgaqbin: 1 for hebap 8 to endbap - 1, also in mode 0; -1 from endbap on; else 0
 unfoldable pub gaqbinOf : ℕ → ℕ → ℤ
 gaqbinOf mode h = cond (marked mode h) (pos 1) (cond (leb (endbap mode) h) (negsuc 0) (pos 0))
 

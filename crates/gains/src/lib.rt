@@ -32,7 +32,7 @@ fn end_of(gaqmod: u8) -> u8
     if gaqmod < 2 { 12 } else { 17 }
 }
 
-// Gains are for hebap 8 up to this one, not included. Refuses a mode above 3 with 12.
+// Bins of hebap 8 up to this one, not included, are marked (fill_gaqbin), also in mode 0. Refuses a mode above 3 with 12.
 pub fn endbap_for_gaqmod(gaqmod: u8) -> ByteResult
     ensures { λ r. ⌜ r ≡ endbapForGaqmod gaqmod ⌝ }
 {
@@ -57,7 +57,7 @@ fn mark(gaqmod: u8, h: u8) -> i8
     if 7 < h { 1 } else { 0 }
 }
 
-// Marks each bin of the row: 1 has a gain word, -1 has hebap endbap or above, else 0. Answers how many are 1. Refuses a mode above 3 with 12.
+// Marks each bin of the row: 1 for hebap 8 to endbap - 1, also in mode 0, where no gain is read; -1 from endbap on; else 0. Answers how many are 1. Refuses a mode above 3 with 12.
 pub fn fill_gaqbin(hebap: &[u8], gaqmod: u8, gaqbin: &mut [i8]) -> CountResult
     ensures { λ r. ⌜ r ≡ fillGaqbin gaqmod (now (hebap .entry)) (length (now (gaqbin .entry))) ⌝ }
     ensures { λ r. ⌜ now (gaqbin .exit) ≡ gaqbinAfter gaqmod (now (hebap .entry)) (now (gaqbin .entry)) ⌝ }

@@ -103,7 +103,7 @@ module _ (w w′ c M : ℕ) (z : ℤ) (e : ℕ) (b b′ : ℤ) (k : Apart c M z 
   codeOf true (Code.Small t) = Code.Small (2 ^ w - t)
   codeOf true (Code.Large t) = Code.Large (2 ^ w′ - t)
 
-  record Sized (p : Code) : Type 0 where
+  record BySize (p : Code) : Type 0 where
     neg : Bool
     by : Code
     is : valueBy w w′ c z e b b′ p ≡ signedBy neg (size neg by)
@@ -124,8 +124,8 @@ module _ (w w′ c M : ℕ) (z : ℤ) (e : ℕ) (b b′ : ℤ) (k : Apart c M z 
   size-positive true (Code.Small t) h = mul-pos (h .0) (k .step)
   size-positive true (Code.Large t) h = let f = mul-pos (h .0) x-pos in omega arith
 
-  small-sized : (s : ℕ) → Read w w′ M (Code.Small s) → Sized (Code.Small s)
-  small-sized s h =
+  small-by-size : (s : ℕ) → Read w w′ M (Code.Small s) → BySize (Code.Small s)
+  small-by-size s h =
       let d = two-halves w in
       elim (lt-or-le s (2 ^ (w - 1))) [
         | inl u ↦ record {
@@ -147,8 +147,8 @@ module _ (w w′ c M : ℕ) (z : ℤ) (e : ℕ) (b b′ : ℤ) (k : Apart c M z 
             }
       ]
 
-  large-sized : (l : ℕ) → Read w w′ M (Code.Large l) → Sized (Code.Large l)
-  large-sized l h =
+  large-by-size : (l : ℕ) → Read w w′ M (Code.Large l) → BySize (Code.Large l)
+  large-by-size l h =
       elim (lt-or-le l (2 ^ (w′ - 1))) [
         | inl u ↦ record {
           neg = false;
@@ -169,14 +169,14 @@ module _ (w w′ c M : ℕ) (z : ℤ) (e : ℕ) (b b′ : ℤ) (k : Apart c M z 
             }
       ]
 
-  sized : (p : Code) → Read w w′ M p → Sized p
-  sized (Code.Small s) h = small-sized s h
-  sized (Code.Large l) h = large-sized l h
+  by-size : (p : Code) → Read w w′ M p → BySize p
+  by-size (Code.Small s) h = small-by-size s h
+  by-size (Code.Large l) h = large-by-size l h
 
   pub values-distinct : (p q : Code) → Read w w′ M p → Read w w′ M q → valueBy w w′ c z e b b′ p ≡ valueBy w w′ c z e b b′ q → p ≡ q
-  values-distinct p q h h′ v = go (sized p h) (sized q h′)
+  values-distinct p q h h′ v = go (by-size p h) (by-size q h′)
     where
-      go : Sized p → Sized q → p ≡ q
+      go : BySize p → BySize q → p ≡ q
       go P Q =
           let s = signedBy-same (P .neg) (Q .neg) _ _ (size-positive (P .neg) (P .by) (P .within)) (size-positive (Q .neg) (Q .by) (Q .within)) (sym (P .is) ∙ v ∙ Q .is) in
           let t : P .by ≡ Q .by = size-same (P .neg) (P .by) (Q .by) (P .within) (rw (s .0) (Q .within)) (s .1 ∙ rw (s .0)) in

@@ -17,7 +17,8 @@ use mir.ValLaws.{toZ-ofZ}
 use Rattle.tables.specs.Tables.{mantBits}
 use Rattle.tables.proofs.Rules.{mant-bits}
 use Rattle.tables.proofs.Tests.{lt-or-le}
-use Rattle.levels.specs.Codes.{signed, smallBits, largeBits}
+use Rattle.levels.specs.declared.Code.{Code}
+use Rattle.levels.specs.Codes.{signed, smallBits, largeBits, Accepted}
 
 pub back : (w : Width) (z : ℤ) {y : ℤ} → mag z < 2 ^ hbits w → z ≡ y → toZ w (ofZ w z) ≡ y
 back w z h e = toZ-ofZ w z (record { sfits = h }) ∙ e
@@ -82,3 +83,7 @@ asked f wide h g m w u r e i l =
     let b = mant-bits h (r .0) (r .1) in
     let a = wide (mantBits h) g (b .0) (b .1) in
     rw (i, e) (a .0, a .1, l)
+
+-- what is accepted of a small code holds of the one that a match has taken out
+pub small-fits : (h g s : ℕ) (code : Code) → Accepted h g code → code ≡ Code.Small s → s < 2 ^ smallBits (mantBits h) g
+small-fits h g s code a e = let b : Accepted h g (Code.Small s) = rw e at a in b .1

@@ -58,8 +58,3 @@ six m g = each (λ (k : ℕ). coded m g) (replicate 6 0)
 abbrev pub Accepted : ℕ → ℕ → Code → Type 0
 Accepted h g (Code.Small s) = (g ≡ 1 → ⊥) × (s < 2 ^ smallBits (mantBits h) g) × (s ≡ tag (smallBits (mantBits h) g) → ⊥)
 Accepted h g (Code.Large l) = l < 2 ^ largeBits (mantBits h) g
-
--- the codes whose bits fit
-abbrev pub CodeFits : ℕ → ℕ → Code → Type 0
-CodeFits h g (Code.Small s) = s < 2 ^ smallBits (mantBits h) g
-CodeFits h g (Code.Large l) = l < 2 ^ largeBits (mantBits h) g

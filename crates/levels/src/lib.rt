@@ -6,7 +6,7 @@ ghost use lib.Dec.{eqb};
 ghost use lib.IntN.{pos, natAbs, _+ℤ_, _*ℤ_};
 ghost use lib.Signed.{mag};
 ghost use Rattle.tables.specs.Tables.{mantBits};
-ghost use Rattle.levels.specs.Codes.{signed, smallBits, largeBits, CodeFits};
+ghost use Rattle.levels.specs.Codes.{signed, smallBits, largeBits, Accepted};
 ghost use Rattle.levels.specs.Exact.{slope, offsetBySign, exactSmall, exactLarge, exactOf};
 ghost use Rattle.levels.specs.Value.{q15 as q15Of, power, offsetAt, gaqRemap, scaled, divided, smallValue, largeValue, levelOf, valueIn};
 
@@ -93,7 +93,6 @@ fn q15(v: i16) -> f32
 }
 
 fn slope_at(hebap: u8, gk: u8) -> i16
-    requires { ⌜ (8 ≤ hebap) × (hebap ≤ 19) ⌝ }
     ensures { λ r. ⌜ r ≡ slope hebap gk ⌝ }
 {
     if gk == 1 {
@@ -107,7 +106,6 @@ fn slope_at(hebap: u8, gk: u8) -> i16
 
 // b: the first is for numbers that are not below 0, the second for those below.
 fn offset_by_sign(hebap: u8, gk: u8, below: bool) -> i16
-    requires { ⌜ (8 ≤ hebap) × (hebap ≤ 19) ⌝ }
     ensures { λ r. ⌜ r ≡ offsetBySign hebap gk below ⌝ }
 {
     if gk == 1 {
@@ -126,7 +124,6 @@ fn offset_by_sign(hebap: u8, gk: u8, below: bool) -> i16
 }
 
 fn offset_at(hebap: u8, gk: u8, x: f32) -> i16
-    requires { ⌜ (8 ≤ hebap) × (hebap ≤ 19) ⌝ }
     ensures { λ r. ⌜ r ≡ offsetAt hebap gk x ⌝ }
 {
     if x >= 0.0 {
@@ -135,9 +132,8 @@ fn offset_at(hebap: u8, gk: u8, x: f32) -> i16
     offset_by_sign(hebap, gk, true)
 }
 
-// The remap of Table E3.6: y = x + a x + b, each operation rounded once.
+// The remap of Table E3.6: y = x + a x + b, each operation rounded once. A gain other than 1 and 2 has the column of Gk 4, as in the Rust.
 pub fn gaq_remap(hebap: u8, gk: u8, x: f32) -> f32
-    requires { ⌜ (8 ≤ hebap) × (hebap ≤ 19) ⌝ }
     ensures { λ r. ⌜ r ≡ gaqRemap hebap gk x ⌝ }
 {
     let a = q15(slope_at(hebap, gk));
@@ -168,7 +164,7 @@ fn large_value(hebap: u8, gk: u8, l: i32) -> f32
 // The kind and the f32 value of a code at a hebap and a gain.
 pub fn level_of(hebap: u8, gk: u8, code: Code) -> Level
     requires { ⌜ (8 ≤ hebap) × (hebap ≤ 19) ⌝ }
-    requires { ⌜ CodeFits hebap gk code ⌝ }
+    requires { ⌜ Accepted hebap gk code ⌝ }
     ensures { λ r. ⌜ r ≡ levelOf hebap gk code ⌝ }
 {
     let m = mant(hebap);
@@ -251,7 +247,7 @@ fn exact_large(hebap: u8, gk: u8, l: i32) -> i32
 // The exact value of a code at a hebap and a gain.
 pub fn exact_value(hebap: u8, gk: u8, code: Code) -> i32
     requires { ⌜ (8 ≤ hebap) × (hebap ≤ 19) ⌝ }
-    requires { ⌜ CodeFits hebap gk code ⌝ }
+    requires { ⌜ Accepted hebap gk code ⌝ }
     ensures { λ r. ⌜ r ≡ exactOf hebap gk code ⌝ }
 {
     let m = mant(hebap);

@@ -1,12 +1,12 @@
 -- The loop over the six codes of a bin: what is known before each turn, and what a turn does. Assumes nothing.
 use Prim.Native.Nat.{ℕ, zero, suc, _+_, _-_, _*_, _≤_, _<_}
 use mathlib.Core.Path.{_≡_, refl, sym, ap, _∙_, subst}
-use mathlib.Core.List.{List, [], _∷_, _++_, map, map-append, append-nil}
+use mathlib.Core.List.{List, [], _∷_, _++_, map, map-append, append-assoc, append-nil}
 use mathlib.Core.Bool.{Bool}
 use native.Mathlib.Omega.{arith}
 use lib.IntN.{ℤ}
 use lib.Ieee.{Float}
-use lib.ListN.{length, drop, set, replicate, length-append, drop-of-length-le}
+use lib.ListN.{length, drop, set, replicate, length-append, length-map, drop-of-length-le}
 use Rattle.bits.specs.Bits.{bitsOf, bitAt, posOf, splice, Inside}
 use Rattle.bits.specs.Format.{Got, got, refused, andThen, Format, each, each-Ok, each-dec, resume}
 use Rattle.bits.specs.declared.BitPos.{BitPos}
@@ -15,30 +15,36 @@ use Rattle.bits.proofs.Lawful.{Lawful, each-lawful, resume-none, resume-next, r
 use Rattle.bits.proofs.Reading.{pos-is}
 use Rattle.tables.specs.Tables.{mantBits}
 use Rattle.levels.specs.declared.Code.{Code}
-use Rattle.levels.specs.Codes.{coded, six, Accepted, CodeFits}
+use Rattle.levels.specs.Codes.{coded, six, Accepted}
 use Rattle.levels.specs.Exact.{exactOf}
 use Rattle.levels.specs.Value.{valueOf}
 use Rattle.levels.proofs.CodeLaws.{coded-lawful, coded-accepted}
 use Rattle.scalars.specs.declared.ScalarResult.{ScalarResult}
-use Rattle.scalars.specs.Scalars.{scalarAnswer, SixPut, scalarsAfter}
+use Rattle.scalars.specs.Scalars.{scalarAnswer, codeAnd, codesThere, sixValues, sixExacts, scalarsAfter}
 
--- a code that was read fits its bits
-pub code-fits : (h g : ℕ) (bs rest : List Bool) (c : Code) → coded (mantBits h) g .dec bs ≡ got c rest → CodeFits h g c
-code-fits h g bs rest c e = fits c (coded-accepted h g c (coded-lawful (mantBits h) g .sole bs rest c e .1))
-  where
-    fits : (c : Code) → Accepted h g c → CodeFits h g c
-    fits (Code.Small s) a = a .1
-    fits (Code.Large l) a = a
+-- a code that was read is accepted
+pub code-accepted : (h g : ℕ) (bs rest : List Bool) (c : Code) → coded (mantBits h) g .dec bs ≡ got c rest → Accepted h g c
+code-accepted h g bs rest c e = coded-accepted h g c (coded-lawful (mantBits h) g .sole bs rest c e .1)
 
-length-map : {A B : Type 0} (f : A → B) (l : List A) → length (map f l) ≡ length l
-length-map f [] = refl
-length-map f (x ∷ l) = ap suc (length-map f l)
+-- ---- the codes that are there
+module _ (F : Format Code) (n : ℕ) (bs : List Bool) where
+  there-more : (c : Code) (rest : List Bool) → F .dec bs ≡ got c rest → codesThere F (suc n) bs ≡ c ∷ codesThere F n rest
+  unfolding codesThere
+  there-more c rest e = rw e
+
+  there-cut : (k : ℕ) → F .dec bs ≡ refused k → codesThere F (suc n) bs ≡ []
+  unfolding codesThere
+  there-cut k e = rw e
+
+there-none : (F : Format Code) (bs : List Bool) → codesThere F 0 bs ≡ []
+unfolding codesThere
+there-none F bs = refl
 
 -- a list in which so many values stand from a place on, and one more
 put-more : {A B : Type 0} (f : A → B) (v : List B) (at : ℕ) (cs : List A) (c : A) → at + length cs < length v
     → set (splice v at (map f cs)) (at + length cs) (f c) ≡ splice v at (map f (cs ++ (c ∷ [])))
 put-more f v at cs c h =
-    let k = length-map f cs in
+    let k = length-map cs f in
     let l : length (splice v at (map f cs)) ≡ length v = length-splice v (map f cs) at (omega arith) in
     let room : at + (length (map f cs) + length (f c ∷ [])) ≤ length v = omega arith in
     sym (splice-one (splice v at (map f cs)) (at + length cs) (f c) (omega arith))
@@ -57,6 +63,7 @@ module _ (h g at : ℕ) (s : List ℕ) (start : ℕ) (v : List Float) (x : List 
     pub few : j ≤ 6
     pub inside : Inside (8 * length s) p
     pub rest : six (mantBits h) g .dec (drop start (bitsOf s)) ≡ resume cs (each-dec one (replicate (6 - j) 0) (drop (bitAt p) (bitsOf s)))
+    pub there : codesThere (coded (mantBits h) g) 6 (drop start (bitsOf s)) ≡ cs ++ codesThere (coded (mantBits h) g) (6 - j) (drop (bitAt p) (bitsOf s))
     pub values : v′ ≡ splice v at (map (valueOf h g) cs)
     pub exacts : x′ ≡ splice x at (map (exactOf h g) cs)
 
@@ -68,6 +75,7 @@ module _ (h g at : ℕ) (s : List ℕ) (start : ℕ) (v : List Float) (x : List 
         few = omega arith;
         inside = i;
         rest = rw e (sym (resume-none _));
+        there = rw e refl;
         values = sym (splice-none v at);
         exacts = sym (splice-none x at);
       }
@@ -75,6 +83,9 @@ module _ (h g at : ℕ) (s : List ℕ) (start : ℕ) (v : List Float) (x : List 
   module _ (p : BitPos) (j : ℕ) (v′ : List Float) (x′ : List ℤ) (f : SoFar p j v′ x′) (more : j < 6) where
     left : replicate {A = ℕ} (6 - j) 0 ≡ 0 ∷ replicate (6 - (j + 1)) 0
     left = let e : 6 - j ≡ suc (6 - (j + 1)) = omega arith in ap (λ (n : ℕ). replicate {A = ℕ} n 0) e
+
+    turns : 6 - j ≡ suc (6 - (j + 1))
+    turns = omega arith
 
     pub one-more : (c : Code) (q : BitPos) (y : Float) (z : ℤ) → at + 6 ≤ length v → at + 6 ≤ length x → Inside (8 * length s) q
         → coded (mantBits h) g .dec (drop (bitAt p) (bitsOf s)) ≡ got c (drop (bitAt q) (bitsOf s)) → y ≡ valueOf h g c → z ≡ exactOf h g c
@@ -89,6 +100,9 @@ module _ (h g at : ℕ) (s : List ℕ) (start : ℕ) (v : List Float) (x : List 
           few = omega arith;
           inside = i;
           rest = f .rest ∙ rw left (resume-next one 0 (replicate (6 - (j + 1)) 0) (drop (bitAt p) (bitsOf s)) (drop (bitAt q) (bitsOf s)) (f .cs) c e);
+          there =
+              f .there ∙ rw (turns, there-more (coded (mantBits h) g) (6 - (j + 1)) (drop (bitAt p) (bitsOf s)) c (drop (bitAt q) (bitsOf s)) e)
+              (sym (append-assoc (f .cs) (c ∷ []) (codesThere (coded (mantBits h) g) (6 - (j + 1)) (drop (bitAt q) (bitsOf s)))));
           values = rw (ey, f .values, ← k) (put-more (valueOf h g) v at (f .cs) c hv′);
           exacts = rw (ez, f .exacts, ← k) (put-more (exactOf h g) x at (f .cs) c hx′);
         }
@@ -97,17 +111,25 @@ module _ (h g at : ℕ) (s : List ℕ) (start : ℕ) (v : List Float) (x : List 
     pub cut : (k : ℕ) → coded (mantBits h) g .dec (drop (bitAt p) (bitsOf s)) ≡ refused k → six (mantBits h) g .dec (drop start (bitsOf s)) ≡ refused k
     cut k e = f .rest ∙ rw left (resume-stop one 0 (replicate (6 - (j + 1)) 0) (drop (bitAt p) (bitsOf s)) (f .cs) k e)
 
-  pub put-none : (k : ℕ) (v′ : List Float) (x′ : List ℤ) (G : Got (List Code)) → G ≡ refused k → length v′ ≡ length v → length x′ ≡ length x
-      → (ScalarResult.Refused k ≡ scalarAnswer (8 * length s) G) × SixPut h g at G v v′ x x′
-  put-none k v′ x′ G e hv hx = rw e (refl, (hv, hx))
+    pub cut-there : (k : ℕ) → coded (mantBits h) g .dec (drop (bitAt p) (bitsOf s)) ≡ refused k → codesThere (coded (mantBits h) g) 6 (drop start (bitsOf s)) ≡ f .cs
+    cut-there k e = f .there ∙ rw (turns, there-cut (coded (mantBits h) g) (6 - (j + 1)) (drop (bitAt p) (bitsOf s)) k e, append-nil)
+
+  -- what stands in the two lists is what the definition names, once the codes so far are all that are there
+  pub put : (p : BitPos) (j : ℕ) (v′ : List Float) (x′ : List ℤ) (f : SoFar p j v′ x′) → codesThere (coded (mantBits h) g) 6 (drop start (bitsOf s)) ≡ f .cs
+      → (v′ ≡ sixValues h g at (drop start (bitsOf s)) v) × (x′ ≡ sixExacts h g at (drop start (bitsOf s)) x)
+  unfolding sixValues sixExacts
+  put p j v′ x′ f e = (rw e (f .values), rw e (f .exacts))
 
   -- all six are there
-  pub all-six : (p : BitPos) (j : ℕ) (v′ : List Float) (x′ : List ℤ) → SoFar p j v′ x′ → 6 ≤ j → (G : Got (List Code)) → G ≡ six (mantBits h) g .dec (drop start (bitsOf s))
-      → (ScalarResult.Done p ≡ scalarAnswer (8 * length s) G) × SixPut h g at G v v′ x x′
-  all-six p j v′ x′ f l G e =
-      let n : replicate {A = ℕ} (6 - j) 0 ≡ [] = let z : 6 - j ≡ 0 = omega arith in ap (λ (n : ℕ). replicate {A = ℕ} n 0) z in
-      let d : G ≡ got (f .cs) (drop (bitAt p) (bitsOf s)) = e ∙ f .rest ∙ rw n (resume-done one (drop (bitAt p) (bitsOf s)) (f .cs)) in
-      rw d (ap ScalarResult.Done (sym (pos-is s p (f .inside))), (f .values, f .exacts))
+  module _ (p : BitPos) (j : ℕ) (v′ : List Float) (x′ : List ℤ) (f : SoFar p j v′ x′) (l : 6 ≤ j) where
+    pub done : ScalarResult.Done p ≡ scalarAnswer (8 * length s) (six (mantBits h) g .dec (drop start (bitsOf s)))
+    done =
+        let n : replicate {A = ℕ} (6 - j) 0 ≡ [] = let z : 6 - j ≡ 0 = omega arith in ap (λ (n : ℕ). replicate {A = ℕ} n 0) z in
+        let d : six (mantBits h) g .dec (drop start (bitsOf s)) ≡ got (f .cs) (drop (bitAt p) (bitsOf s)) = f .rest ∙ rw n (resume-done one (drop (bitAt p) (bitsOf s)) (f .cs)) in
+        ap ScalarResult.Done (sym (pos-is s p (f .inside))) ∙ ap (scalarAnswer (8 * length s)) (sym d)
+
+    pub done-there : codesThere (coded (mantBits h) g) 6 (drop start (bitsOf s)) ≡ f .cs
+    done-there = let z : 6 - j ≡ 0 = omega arith in f .there ∙ rw (z, there-none (coded (mantBits h) g) (drop (bitAt p) (bitsOf s)), append-nil)
 
 -- ---- the six values put out
 counted : {A : Type 0} (F : ℕ → Format A) (n : ℕ) (cs : List A) → each-Ok F (replicate n 0) cs → length cs ≡ n
@@ -125,6 +147,22 @@ splice-whole : {A : Type 0} (l new : List A) → length l ≡ length new → spl
 unfolding splice
 splice-whole l new e = let h : length l ≤ 0 + length new = omega arith in rw (drop-of-length-le l h, append-nil)
 
+-- the codes of a bin that is there are all the codes that are there
+all-there : (F : Format Code) (n : ℕ) (bs rest : List Bool) (cs : List Code) → each-dec (λ (k : ℕ). F) (replicate n 0) bs ≡ got cs rest → codesThere F n bs ≡ cs
+unfolding each-dec codesThere
+all-there F zero bs rest cs e = let q : [] ≡ cs = cc in q
+all-there F (suc n) bs rest cs e = first (λ mid rest′ ds u. all-there F n mid rest′ ds u) (F .dec bs) refl e
+  where
+    second : (c : Code) (mid : List Bool) (G : Got (List Code)) → each-dec (λ (k : ℕ). F) (replicate n 0) mid ≡ G → andThen G (λ ds rest′. got (c ∷ ds) rest′) ≡ got cs rest
+        → ((ds : List Code) (rest′ : List Bool) → each-dec (λ (k : ℕ). F) (replicate n 0) mid ≡ got ds rest′ → codesThere F n mid ≡ ds) → c ∷ codesThere F n mid ≡ cs
+    second c mid (got ds rest′) d q r = let k : c ∷ ds ≡ cs = cc in ap (λ l. c ∷ l) (r ds rest′ d) ∙ k
+    second c mid (refused j) d q r = let z : _≡_ {A = ℕ} 0 1 = cc in absurd (omega arith)
+
+    first : ((mid rest′ : List Bool) (ds : List Code) → each-dec (λ (k : ℕ). F) (replicate n 0) mid ≡ got ds rest′ → codesThere F n mid ≡ ds) → (G : Got Code) → F .dec bs ≡ G → andThen G (λ c mid. andThen (each-dec (λ (k : ℕ). F) (replicate n 0) mid) (λ ds rest′. got (c ∷ ds) rest′)) ≡ got cs rest
+        → codeAnd G (λ mid. codesThere F n mid) ≡ cs
+    first r (got c mid) d q = second c mid (each-dec (λ (k : ℕ). F) (replicate n 0) mid) refl q (λ ds rest′ u. r mid rest′ ds u)
+    first r (refused j) d q = let z : _≡_ {A = ℕ} 0 1 = cc in absurd (omega arith)
+
 module _ (h g n : ℕ) (bs : List Bool) (out : List Float) where
   abbrev shownAs : List Code → List Bool → Got (List Float)
   shownAs cs rest = got (map (valueOf h g) cs) rest
@@ -134,9 +172,11 @@ module _ (h g n : ℕ) (bs : List Bool) (out : List Float) where
   values-none k (got cs rest) e = let z : _≡_ {A = ℕ} 0 1 = cc in absurd (omega arith)
   values-none k (refused j) e = (e, refl)
 
-  pub values-all : (q : BitPos) (v v′ : List Float) (x x′ : List ℤ) (G : Got (List Code)) → G ≡ six (mantBits h) g .dec bs → ScalarResult.Done q ≡ scalarAnswer n G
-      → SixPut h g 0 G v v′ x x′ → length v ≡ 6 → (ScalarResult.Done q ≡ scalarAnswer n (andThen G shownAs)) × (v′ ≡ scalarsAfter out (andThen G shownAs))
-  values-all q v v′ x x′ (got cs rest) d e p l =
-      let k = six-there (mantBits h) g bs rest cs (sym d) in
-      (e, p .0 ∙ splice-whole v (map (valueOf h g) cs) (l ∙ sym k ∙ sym (length-map (valueOf h g) cs)))
-  values-all q v v′ x x′ (refused j) d e p l = let z : _≡_ {A = ℕ} 0 1 = cc in absurd (omega arith)
+  pub values-all : (q : BitPos) (v v′ : List Float) (G : Got (List Code)) → six (mantBits h) g .dec bs ≡ G → ScalarResult.Done q ≡ scalarAnswer n G
+      → v′ ≡ sixValues h g 0 bs v → length v ≡ 6 → (ScalarResult.Done q ≡ scalarAnswer n (andThen G shownAs)) × (v′ ≡ scalarsAfter out (andThen G shownAs))
+  unfolding sixValues
+  values-all q v v′ (got cs rest) d e p l =
+      let k = six-there (mantBits h) g bs rest cs d in
+      let a = all-there (coded (mantBits h) g) 6 bs rest cs d in
+      (e, p ∙ ap (λ l. splice v 0 (map (valueOf h g) l)) a ∙ splice-whole v (map (valueOf h g) cs) (l ∙ sym k ∙ sym (length-map cs (valueOf h g))))
+  values-all q v v′ (refused j) d e p l = let z : _≡_ {A = ℕ} 0 1 = cc in absurd (omega arith)

@@ -1,18 +1,17 @@
 -- What reading scalar mantissas answers: a code, the six codes of a bin, and read_scalar_aht_mantissas. ATSC A/52 Annex E, 3.4.4.2.
-use Prim.Native.Nat.{ℕ, _*_, _-_}
-use mathlib.Core.Path.{_≡_}
+use Prim.Native.Nat.{ℕ, zero, suc, _*_, _-_}
 use mathlib.Core.Bool.{Bool, cond}
-use mathlib.Core.List.{List, map}
+use mathlib.Core.List.{List, [], _∷_, map}
 use lib.Dec.{eqb, leb}
 use lib.IntN.{ℤ, pos, negsuc}
 use lib.ListN.{length, drop, replicate}
 use lib.Ieee.{Float}
 use Rattle.bits.specs.Bits.{bitsOf, bitAt, posOf, splice, Inside}
-use Rattle.bits.specs.Format.{Got, got, refused, andThen}
+use Rattle.bits.specs.Format.{Format, Got, got, refused, andThen}
 use Rattle.tables.specs.Tables.{mantBits}
 use Rattle.gains.specs.Gains.{gainValue}
 use Rattle.levels.specs.declared.Code.{Code}
-use Rattle.levels.specs.Codes.{six}
+use Rattle.levels.specs.Codes.{coded, six}
 use Rattle.levels.specs.Exact.{exactOf}
 use Rattle.levels.specs.Value.{f0, valueOf}
 use Rattle.scalars.specs.declared.CodeResult.{CodeResult}
@@ -35,10 +34,21 @@ scalarAnswer n (got a rest) = ScalarResult.Done (posOf (n - length rest))
 scalarAnswer n (refused k) = ScalarResult.Refused k
 
 -- ---- the six codes of a bin
--- what read_six leaves in its work lists: the values from a place on, where all six codes are there
-abbrev pub SixPut : ℕ → ℕ → ℕ → Got (List Code) → List Float → List Float → List ℤ → List ℤ → Type 0
-SixPut h g at (got cs rest) v v′ x x′ = (v′ ≡ splice v at (map (valueOf h g) cs)) × (x′ ≡ splice x at (map (exactOf h g) cs))
-SixPut h g at (refused k) v v′ x x′ = (length v′ ≡ length v) × (length x′ ≡ length x)
+-- the codes that are there, up to n, before the bits run out
+abbrev pub codeAnd : Got Code → (List Bool → List Code) → List Code
+codeAnd (got c rest) f = c ∷ f rest
+codeAnd (refused k) f = []
+
+unfoldable pub codesThere : Format Code → ℕ → List Bool → List Code
+codesThere F zero bs = []
+codesThere F (suc n) bs = codeAnd (F .dec bs) (λ rest. codesThere F n rest)
+
+-- what read_six leaves in its work lists: the values of the codes that are there, from a place on
+unfoldable pub sixValues : ℕ → ℕ → ℕ → List Bool → List Float → List Float
+sixValues h g at bs v = splice v at (map (valueOf h g) (codesThere (coded (mantBits h) g) 6 bs))
+
+unfoldable pub sixExacts : ℕ → ℕ → ℕ → List Bool → List ℤ → List ℤ
+sixExacts h g at bs x = splice x at (map (exactOf h g) (codesThere (coded (mantBits h) g) 6 bs))
 
 -- ---- read_scalar_aht_mantissas
 -- Gk: by the gain code where gaqbin is 1, else 1

@@ -6,7 +6,7 @@ ghost use Rattle.bits.specs.Bits.{bitsOf, bitAt, Inside};
 ghost use Rattle.tables.specs.Tables.{mantBits};
 ghost use Rattle.levels.specs.Codes.{tagged, coded, six};
 ghost use Rattle.levels.specs.Value.{f0};
-ghost use Rattle.scalars.specs.Scalars.{codeIn, CodeNext, scalarAnswer, SixPut, gainOf, valuesRead, binRead, scalarsRead, scalarsAfter};
+ghost use Rattle.scalars.specs.Scalars.{codeIn, CodeNext, scalarAnswer, sixValues, sixExacts, gainOf, valuesRead, binRead, scalarsRead, scalarsAfter};
 use bits::BitPos;
 use bits::BitRead;
 use levels::Code;
@@ -71,7 +71,7 @@ pub fn read_code(src: &[u8], pos: BitPos, hebap: u8, gk: u8) -> CodeResult
     }
 }
 
-// The six codes of a bin: their f32 and exact values go to the places from `at` on. Where the bits run out, what was read before stands there.
+// The six codes of a bin: their f32 and exact values go to the places from `at` on. Where the bits run out, the values of the codes before that stand there.
 pub fn read_six(
     src: &[u8],
     pos: BitPos,
@@ -85,7 +85,8 @@ pub fn read_six(
     requires { ⌜ Inside (8 * length (now src)) pos ⌝ }
     requires { ⌜ (at + 6 ≤ length (now values)) × (at + 6 ≤ length (now exact)) ⌝ }
     ensures { λ r. ⌜ r ≡ scalarAnswer (8 * length (now (src .entry))) (six (mantBits hebap) gk .dec (drop (bitAt pos) (bitsOf (now (src .entry))))) ⌝ }
-    ensures { λ r. ⌜ SixPut hebap gk at (six (mantBits hebap) gk .dec (drop (bitAt pos) (bitsOf (now (src .entry))))) (now (values .entry)) (now (values .exit)) (now (exact .entry)) (now (exact .exit)) ⌝ }
+    ensures { λ r. ⌜ now (values .exit) ≡ sixValues hebap gk at (drop (bitAt pos) (bitsOf (now (src .entry)))) (now (values .entry)) ⌝ }
+    ensures { λ r. ⌜ now (exact .exit) ≡ sixExacts hebap gk at (drop (bitAt pos) (bitsOf (now (src .entry)))) (now (exact .entry)) ⌝ }
 {
     let mut p = pos;
     let mut j: usize = 0;

@@ -1,6 +1,6 @@
 // The tables of ATSC A/52 Annex E, section 3.4, and what they say of a hebap.
 ghost use mathlib.Core.Path.{_≡_};
-ghost use Prim.Native.Nat.{_≤_, _<_};
+ghost use Prim.Native.Nat.{_-_, _<_};
 ghost use Rattle.tables.specs.Numbers.{hebaptab, vqHebap1, vqHebap2, vqHebap3, vqHebap4, vqHebap5, vqHebap6, vqHebap7};
 ghost use Rattle.tables.specs.Tables.{mantBits, vqBits, gaqRemapAt, hebapFromAddress};
 ghost use lib.ListN.{getD};
@@ -33,14 +33,19 @@ pub fn vq_bits(hebap: u8) -> u8
     if h < 8 { consts::VQ_BITS[h] } else { 0 }
 }
 
-// A number of GAQ_REMAP: row hebap - 8, column 0 to 6.
+fn remap_row(hebap: u8) -> usize
+    ensures { λ r. ⌜ r ≡ hebap - 8 ⌝ }
+{
+    if hebap < 8 { 0 } else { hebap as usize - 8 }
+}
+
+// A number of GAQ_REMAP: row hebap - 8, column 0 to 6. From hebap 20 on it is 0, as in the row of hebap 19, which the Rust takes there.
 pub fn gaq_remap_at(hebap: u8, column: usize) -> i16
-    requires { ⌜ (8 ≤ hebap) × (hebap ≤ 19) ⌝ }
     requires { ⌜ column < 7 ⌝ }
     ensures { λ r. ⌜ r ≡ gaqRemapAt hebap column ⌝ }
 {
-    let i = (hebap as usize - 8) * 7 + column;
-    consts::GAQ_REMAP[i]
+    let i = remap_row(hebap) * 7 + column;
+    if i < 84 { consts::GAQ_REMAP[i] } else { 0 }
 }
 
 fn hebap_at(address: usize) -> u8

@@ -7,7 +7,7 @@ use Rattle.tables.specs.Tables.{mantBits}
 use Rattle.tables.proofs.Rules.{mant-bits}
 use Rattle.levels.specs.Codes.{signed, smallBits, largeBits}
 use Rattle.levels.specs.Exact.{exactOf}
-use Rattle.levels.proofs.Signed.{back, small-width, large-width, asked}
+use Rattle.levels.proofs.Signed.{back, small-width, large-width, asked, small-fits}
 use Rattle.levels.proofs.Sizes.{small-shown, large-shown}
 use Rattle.levels.proofs.exact_value.Statement.{statement}
 use Rattle.levels.proofs.exact_value.Tie as tie
@@ -28,7 +28,7 @@ signed-code-requires : tie.Need-signed-code-requires
 signed-code-requires c κs =
     let d = c .before .before .before .before in
     asked smallBits small-width (d .before .args .hebap) (d .before .args .gk) (d .mant .result) (c .small-bits .result) (c .before .before .code .given .0 .0)
-    (d .before .pre .0) (d .mant .ensures) (c .small-bits .ensures) (rw (c .before .before .code .given .1) at (d .before .pre .1))
+    (d .before .pre .0) (d .mant .ensures) (c .small-bits .ensures) (small-fits (d .before .args .hebap) (d .before .args .gk) _ _ (d .before .pre .1) (c .before .before .code .given .1))
 
 small-is : (c : tie.After-signed-code) → c .signed-code .result
     ≡ signed (smallBits (mantBits (c .before .before .before .before .before .before .args .hebap)) (c .before .before .before .before .before .before .args .gk)) (c .before .before .before .code .given .0 .0)
@@ -38,7 +38,7 @@ exact-small-requires : tie.Need-exact-small-requires
 exact-small-requires c κs =
     let s = c .before .before .before .before .before .before in
     let code = c .before .before .before .code .given in
-    (s .pre .0, small-shown (s .args .hebap) (s .args .gk) (s .pre .0 .0) (s .pre .0 .1) (code .0 .0) (c .signed-code .result) (c .signed-code .ok) (rw (code .1) at (s .pre .1)) (small-is c))
+    (s .pre .0, small-shown (s .args .hebap) (s .args .gk) (s .pre .0 .0) (s .pre .0 .1) (code .0 .0) (c .signed-code .result) (c .signed-code .ok) (small-fits (s .args .hebap) (s .args .gk) _ _ (s .pre .1) (code .1)) (small-is c))
 
 enum-known-code-2 : tie.Need-enum-known-code-2
 enum-known-code-2 c = search needs

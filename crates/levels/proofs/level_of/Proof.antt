@@ -7,7 +7,7 @@ use Rattle.tables.proofs.Rules.{mant-bits}
 use Rattle.levels.specs.declared.Level.{Level}
 use Rattle.levels.specs.Codes.{smallBits, largeBits}
 use Rattle.levels.specs.Value.{smallValue, largeValue, levelOf}
-use Rattle.levels.proofs.Signed.{back, passed-small, small-width, large-width, asked}
+use Rattle.levels.proofs.Signed.{back, passed-small, small-width, large-width, asked, small-fits}
 use Rattle.levels.proofs.level_of.Statement.{statement}
 use Rattle.levels.proofs.level_of.Tie as tie
 
@@ -28,7 +28,7 @@ small-asked c =
     let d = c .before .before .before .before in
     let s = d .before in
     asked smallBits small-width (s .args .hebap) (s .args .gk) (d .mant .result) (c .small-bits .result) (c .before .before .code .given .0 .0) (s .pre .0)
-    (d .mant .ensures) (c .small-bits .ensures) (rw (c .before .before .code .given .1) at (s .pre .1))
+    (d .mant .ensures) (c .small-bits .ensures) (small-fits (s .args .hebap) (s .args .gk) _ _ (s .pre .1) (c .before .before .code .given .1))
 
 signed-code-requires : tie.Need-signed-code-requires
 signed-code-requires c κs = small-asked c

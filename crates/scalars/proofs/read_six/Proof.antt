@@ -10,11 +10,11 @@ use Rattle.bits.specs.Bits.{bitsOf, bitAt, Inside}
 use Rattle.bits.specs.Format.{got}
 use Rattle.bits.specs.declared.BitPos.{BitPos}
 use Rattle.tables.specs.Tables.{mantBits}
-use Rattle.levels.specs.Codes.{coded, six, CodeFits}
+use Rattle.levels.specs.Codes.{coded, six}
 use Rattle.levels.specs.Exact.{exactOf}
 use Rattle.levels.specs.Value.{valueIn, valueOf}
 use Rattle.scalars.specs.Scalars.{codeIn, CodeNext}
-use Rattle.scalars.proofs.Six.{SoFar, none-yet, one-more, cut, put-none, all-six, code-fits}
+use Rattle.scalars.proofs.Six.{SoFar, none-yet, one-more, cut, cut-there, put, done, done-there, code-accepted}
 use native.Mathlib.Omega.{arith}
 use borrow.Author.Needs.{needs}
 use Rattle.scalars.proofs.read_six.Statement.{statement}
@@ -48,9 +48,10 @@ returns c =
     let a = l .before .before .before .args in
     let r = c .before .before .before in
     let e = sym (r .read-code .ensures .0) ∙ ap (codeIn (bitsOf (now (a .src)))) (c .before .r .given .1) in
-    put-none (a .hebap) (a .gk) (a .at) (now (a .src)) (bitAt (a .pos)) (now (a .values)) (now (a .exact)) _ (l .loop .values) (l .loop .exact) _
-    (cut (a .hebap) (a .gk) (a .at) (now (a .src)) (bitAt (a .pos)) (now (a .values)) (now (a .exact)) (l .loop .p) (l .loop .j) (l .loop .values) (l .loop .exact) (l .loop .inv .0) (omega arith) _ e)
-    (l .loop .inv .1) (l .loop .inv .2)
+    let f = l .loop .inv .0 in
+    let q = cut-there (a .hebap) (a .gk) (a .at) (now (a .src)) (bitAt (a .pos)) (now (a .values)) (now (a .exact)) (l .loop .p) (l .loop .j) (l .loop .values) (l .loop .exact) f (omega arith) _ e in
+    let w = put (a .hebap) (a .gk) (a .at) (now (a .src)) (bitAt (a .pos)) (now (a .values)) (now (a .exact)) (l .loop .p) (l .loop .j) (l .loop .values) (l .loop .exact) f q in
+    (rw (cut (a .hebap) (a .gk) (a .at) (now (a .src)) (bitAt (a .pos)) (now (a .values)) (now (a .exact)) (l .loop .p) (l .loop .j) (l .loop .values) (l .loop .exact) f (omega arith) _ e) refl, (w .0, w .1))
 
 enum-known-r-2 : tie.Need-enum-known-r-2 Inv-loop μ-loop
 enum-known-r-2 c = search needs
@@ -70,7 +71,7 @@ next-in c =
     rw (c .before .r2 .given .1) at (r .read-code .ensures .1)
 
 level-of-requires : tie.Need-level-of-requires Inv-loop μ-loop
-level-of-requires c κs = let a = c .before .before .before .before .before .before .before .before .args in (search needs, code-fits (a .hebap) (a .gk) _ _ _ (code-is c))
+level-of-requires c κs = let a = c .before .before .before .before .before .before .before .before .args in (search needs, code-accepted (a .hebap) (a .gk) _ _ _ (code-is c))
 
 value-of-requires : tie.Need-value-of-requires Inv-loop μ-loop
 value-of-requires c κs = search needs
@@ -85,7 +86,7 @@ slice-write-values : tie.Need-slice-write-values Inv-loop μ-loop
 slice-write-values c = search needs
 
 exact-value-requires : tie.Need-exact-value-requires Inv-loop μ-loop
-exact-value-requires c κs = let k = c .before .before in let a = k .before .before .before .before .before .before .before .before .args in (search needs, code-fits (a .hebap) (a .gk) _ _ _ (code-is k))
+exact-value-requires c κs = let k = c .before .before in let a = k .before .before .before .before .before .before .before .before .args in (search needs, code-accepted (a .hebap) (a .gk) _ _ _ (code-is k))
 
 add-t17 : tie.Need-add-t17 Inv-loop μ-loop
 add-t17 c = search needs
@@ -125,7 +126,10 @@ returns-2 : tie.Need-returns-2 Inv-loop μ-loop
 returns-2 c =
     let l = c .before in
     let a = l .before .before .before .args in
-    all-six (a .hebap) (a .gk) (a .at) (now (a .src)) (bitAt (a .pos)) (now (a .values)) (now (a .exact)) (l .loop .p) (l .loop .j) (l .loop .values) (l .loop .exact) (l .loop .inv .0) (omega arith) _ refl
+    let f = l .loop .inv .0 in
+    let q = done-there (a .hebap) (a .gk) (a .at) (now (a .src)) (bitAt (a .pos)) (now (a .values)) (now (a .exact)) (l .loop .p) (l .loop .j) (l .loop .values) (l .loop .exact) f (omega arith) in
+    let w = put (a .hebap) (a .gk) (a .at) (now (a .src)) (bitAt (a .pos)) (now (a .values)) (now (a .exact)) (l .loop .p) (l .loop .j) (l .loop .values) (l .loop .exact) f q in
+    (done (a .hebap) (a .gk) (a .at) (now (a .src)) (bitAt (a .pos)) (now (a .values)) (now (a .exact)) (l .loop .p) (l .loop .j) (l .loop .values) (l .loop .exact) f (omega arith), (w .0, w .1))
 
 pub read-six-spec : {M : Type 1} → statement M
 read-six-spec =

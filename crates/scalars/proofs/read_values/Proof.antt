@@ -54,7 +54,7 @@ returns-2 c =
     let a = s .args in
     let bs = drop (bitAt (a .pos)) (bitsOf (now (a .src))) in
     let e =
-    values-all (a .hebap) (a .gk) (8 * length (now (a .src))) bs (now (a .out)) _ (now (a .values)) _ (now (a .exact)) _ (six (mantBits (a .hebap)) (a .gk) .dec bs) refl (sym (k .before .r2 .given .1) ∙ r .read-six .ensures .0) (r .read-six .ensures .1) (s .pre .1 .1 .1) in
+    values-all (a .hebap) (a .gk) (8 * length (now (a .src))) bs (now (a .out)) _ (now (a .values)) _ (six (mantBits (a .hebap)) (a .gk) .dec bs) refl (sym (k .before .r2 .given .1) ∙ r .read-six .ensures .0) (r .read-six .ensures .1 .0) (s .pre .1 .1 .1) in
     (e .0, c .before .before .copy .ensures ∙ e .1)
 
 pub read-values-spec : {M : Type 1} → statement M

@@ -1,4 +1,9 @@
 -- `tables::gaq_remap_at` meets its contract. Assumes nothing.
+use Prim.Native.Nat.{ℕ, _+_, _*_, _-_, _≤_}
+use mathlib.Core.Path.{_≡_, sym, ap, _∙_}
+use native.Mathlib.Omega.{arith}
+use lib.IntN.{pos}
+use lib.ListN.{List·getD-eq-default, length}
 use mir.Syntax.{w16}
 use mir.ValLaws.{toZ-ofZ}
 use borrow.Author.Needs.{needs}
@@ -8,14 +13,14 @@ use Rattle.tables.proofs.Rules.{remap-fits}
 use Rattle.tables.proofs.gaq_remap_at.Statement.{statement}
 use Rattle.tables.proofs.gaq_remap_at.Tie as tie
 
-sub-i : tie.Need-sub-i
-sub-i c = search needs
+remap-row-requires : tie.Need-remap-row-requires
+remap-row-requires c κs = search needs
 
 mul-i : tie.Need-mul-i
-mul-i c = search needs
+mul-i c = let e = c .remap-row .ensures in omega arith
 
 add-i : tie.Need-add-i
-add-i c = search needs
+add-i c = let e = c .remap-row .ensures in omega arith
 
 mul-result : tie.Need-mul-result
 mul-result c = search needs
@@ -26,8 +31,23 @@ array-copy-out-result c = search needs
 returns : tie.Need-returns
 unfolding gaqRemapAt gaqRemapTable
 returns c =
-    let a = c .before .args in
-    toZ-ofZ w16 (gaqRemapAt (a .hebap) (a .column)) (record { sfits = remap-fits (a .hebap) (a .column) })
+    let r = c .before .before in
+    let a = r .before .args in
+    rw (r .remap-row .ensures) (toZ-ofZ w16 (gaqRemapAt (a .hebap) (a .column)) (record { sfits = remap-fits (a .hebap) (a .column) }))
+
+-- past the table's end
+past : (h column : ℕ) → 84 ≤ (h - 8) * 7 + column → gaqRemapAt h column ≡ pos 0
+unfolding gaqRemapAt gaqRemapTable
+past h column k = List·getD-eq-default gaqRemapTable (pos 0) k
+
+returns-2 : tie.Need-returns-2
+returns-2 c =
+    let r = c .before in
+    let a = r .before .args in
+    let e = r .remap-row .ensures in
+    sym (past (a .hebap) (a .column) (omega arith))
 
 pub gaq-remap-at-spec : {M : Type 1} → statement M
-gaq-remap-at-spec = tie.close (tie.spec sub-i mul-i add-i mul-result array-copy-out-result returns)
+gaq-remap-at-spec =
+    tie.close
+    (tie.spec remap-row-requires mul-i add-i mul-result array-copy-out-result returns returns-2)
