@@ -19,12 +19,15 @@ mod eac3 {
     }
 }
 #[cfg(not(record))]
+mod coding;
+#[cfg(not(record))]
 mod foundations;
 #[cfg(not(record))]
 mod ours;
 mod random;
 #[cfg(record)]
 mod record;
+mod signals;
 
 fn seed() -> u64 {
     std::env::args().nth(1).and_then(|s| s.parse().ok()).unwrap_or(1)
@@ -42,6 +45,7 @@ fn main() {
     println!("compare: seed {seed}");
     let mut all = Tally::default();
     foundations::run(seed, &mut all);
+    coding::run(seed, &mut all);
     println!("compare: {} cases, {} different", all.cases, all.different);
     if all.different > 0 {
         std::process::exit(1);

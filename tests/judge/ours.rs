@@ -15,6 +15,13 @@ extern "C" {
     fn fathrugg_read_scalar_aht_mantissas(
         src: *const u8, len: usize, byte: *mut usize, bit: *mut u32, hebap: u8, gaqmod: u8, gaqbin: i8, gain_code: u8, out: *mut f32,
     ) -> u8;
+    fn fathrugg_vq_lookup(hebap: u8, index: usize, out: *mut f32) -> u8;
+    fn fathrugg_vq_search(hebap: u8, x: *const f32, index: *mut usize) -> u8;
+    fn fathrugg_quantise_scalar(hebap: u8, gk: u8, x: f32, large: *mut u8, code: *mut u32, value: *mut f32) -> u8;
+    fn fathrugg_quantise_bin(hebap: u8, gk: u8, x: *const f32, values: *mut f32, bits: *mut u32, err: *mut f32) -> u8;
+    fn fathrugg_plan_aht_channel(
+        hebap: *const u8, bins: usize, start: usize, end: usize, x: *const f32, components: usize, mode: *mut u8, gains: *mut u8, count: *mut usize, payload: *mut u32,
+    ) -> u8;
 }
 
 /// A bit position, as the library has it.
@@ -64,4 +71,44 @@ pub fn read_gaq_gains(src: &[u8], p: &mut Pos, gaqmod: u8, nsections: usize, out
 
 pub fn read_scalar_aht_mantissas(src: &[u8], p: &mut Pos, hebap: u8, gaqmod: u8, gaqbin: i8, gain_code: u8, out: &mut [f32; 6]) -> u8 {
     unsafe { fathrugg_read_scalar_aht_mantissas(src.as_ptr(), src.len(), &mut p.byte, &mut p.bit, hebap, gaqmod, gaqbin, gain_code, out.as_mut_ptr()) }
+}
+
+pub fn vq_lookup(hebap: u8, index: usize, out: &mut [f32; 6]) -> u8 {
+    unsafe { fathrugg_vq_lookup(hebap, index, out.as_mut_ptr()) }
+}
+
+pub fn vq_search(hebap: u8, x: &[f32; 6], index: &mut usize) -> u8 {
+    unsafe { fathrugg_vq_search(hebap, x.as_ptr(), index) }
+}
+
+pub fn quantise_scalar(hebap: u8, gk: u8, x: f32, large: &mut u8, code: &mut u32, value: &mut f32) -> u8 {
+    unsafe { fathrugg_quantise_scalar(hebap, gk, x, large, code, value) }
+}
+
+pub fn quantise_bin(hebap: u8, gk: u8, x: &[f32; 6], values: &mut [f32; 6], bits: &mut u32, err: &mut f32) -> u8 {
+    unsafe { fathrugg_quantise_bin(hebap, gk, x.as_ptr(), values.as_mut_ptr(), bits, err) }
+}
+
+/// A plan, as the library has it.
+#[derive(Clone, Debug, PartialEq, Eq)]
+pub struct Plan {
+    pub mode: u8,
+    pub gains: [u8; 256],
+    pub count: usize,
+    pub payload: u32,
+}
+
+impl Plan {
+    /// What stands there before a call, so that a refusal that changes it is seen.
+    pub fn filled() -> Plan {
+        Plan { mode: 0x5a, gains: [0x5a; 256], count: 4711, payload: 4711 }
+    }
+}
+
+pub fn plan_aht_channel(hebap: &[u8], start: usize, end: usize, x: &[f32], p: &mut Plan) -> u8 {
+    unsafe {
+        fathrugg_plan_aht_channel(
+            hebap.as_ptr(), hebap.len(), start, end, x.as_ptr(), x.len(), &mut p.mode, p.gains.as_mut_ptr(), &mut p.count, &mut p.payload,
+        )
+    }
 }

@@ -1,20 +1,22 @@
-//! The recorded answers that crates/replay replays: calls with what the Rust answers, 128 bytes each, least significant byte first.
+//! The recorded answers that crates/replay replays: calls with what the Rust answers, 256 bytes each, least significant byte first.
 //! crates/replay/stdin was made by `tests/compare ../shared/docs/src 20261115 record`. read_u32 and write_u32 are the stand-in's
 //! answers; the numbers of refusals are document 01's.
 //!
 //! 0 function, 1 refusal, 2 to 5 small arguments, 6 length of the input, 7 places of the output, 8 position's byte (8 bytes), 16 its
 //! bit (4), 20 a number of 32 bits, 24 one of 64, 32 the input (24), 56 the output before (24), 80 the output after (24), 104 the
-//! value, 112 and 120 the position after. A refused call has its value 0 and its position and output as they were.
-use crate::eac3::aht;
+//! value, 112 and 120 the position after, 128 vectors (120). A refused call has its value 0 and its position and output as they were,
+//! a refused plan or bin is zeros.
+use crate::eac3::{aht, ahtenc};
 use crate::random::Random;
+use crate::signals::{aimed, allowed, bin_of, cause, channel, code_of, component, outside, vectors};
 use oxideav_core::bits::{BitReader, BitWriter};
 use std::io::Write;
 
-struct Record([u8; 128]);
+struct Record([u8; 256]);
 
 impl Record {
     fn new(function: u8) -> Self {
-        let mut r = [0; 128];
+        let mut r = [0; 256];
         r[0] = function;
         Record(r)
     }
@@ -48,6 +50,21 @@ impl Record {
         self.0[80..80 + after.len()].copy_from_slice(after);
         self
     }
+    /// Six numbers as the output after the call.
+    fn floats(mut self, y: &[f32; 6]) -> Self {
+        for (place, v) in self.0[80..104].chunks_exact_mut(4).zip(y) {
+            place.copy_from_slice(&v.to_bits().to_le_bytes());
+        }
+        self
+    }
+    /// The vectors; how many numbers they have stands with the length of the output.
+    fn vectors(mut self, x: &[f32]) -> Self {
+        self.0[7] = x.len() as u8;
+        for (place, v) in self.0[128..].chunks_exact_mut(4).zip(x) {
+            place.copy_from_slice(&v.to_bits().to_le_bytes());
+        }
+        self
+    }
     fn answer(mut self, refusal: u8, value: usize, next: usize) -> Self {
         self.0[1] = refusal;
         self.0[104..112].copy_from_slice(&value.to_le_bytes());
@@ -61,7 +78,7 @@ impl Record {
 pub fn write(seed: u64, path: &str) {
     let mut random = Random::new(seed);
     let mut out = Vec::new();
-    for f in 1..=9u8 {
+    for f in 1..=14u8 {
         for i in 0..250 {
             out.push(one(f, i, &mut random));
         }
@@ -179,6 +196,73 @@ fn one(f: u8, i: usize, random: &mut Random) -> Record {
                 Err(_) => r.out(&before, &before).answer(8, 0, at),
             }
         }
+        // vq_lookup
+        10 => {
+            let hebap = (i % 9) as u8;
+            let index = if i % 4 == 0 { random.next() as usize } else { random.below(600) };
+            Record::new(f).args(&[hebap]).arg64(index).floats(&aht::vq_lookup(hebap, index)).answer(0, 0, 0)
+        }
+        // vq_search
+        11 => {
+            let hebap = (i % 9) as u8;
+            let x = six(random, i, |random| component(random) / 4.0);
+            let r = Record::new(f).args(&[hebap]).vectors(&x);
+            if (1..=7).contains(&hebap) && x.iter().any(|&v| outside(v)) { r.answer(5, 0, 0) } else { r.answer(0, ahtenc::vq_search(hebap, &x), 0) }
+        }
+        // quantise_scalar: every hebap and gain; the last byte of the arguments says whether the code is large
+        12 => {
+            let (hebap, gk) = gain_of(i);
+            let x = six(random, i, |random| if allowed(hebap, gk) { aimed(random, hebap, gk) } else { component(random) })[i % 6];
+            let r = Record::new(f).vectors(&[x]);
+            if !allowed(hebap, gk) {
+                return r.args(&[hebap, gk]).answer(11, 0, 0);
+            }
+            if outside(x) {
+                return r.args(&[hebap, gk]).answer(5, 0, 0);
+            }
+            let (large, code, _, y) = code_of(hebap, gk, x);
+            r.args(&[hebap, gk, large]).floats(&[y, 0.0, 0.0, 0.0, 0.0, 0.0]).answer(0, code as usize, 0)
+        }
+        // quantise_bin: the error stands as the number of 32 bits
+        13 => {
+            let (hebap, gk) = gain_of(i);
+            let x = six(random, i, |random| if allowed(hebap, gk) && random.below(2) == 0 { aimed(random, hebap, gk) } else { component(random) });
+            let r = Record::new(f).args(&[hebap, gk]).vectors(&x);
+            if !allowed(hebap, gk) {
+                return r.answer(11, 0, 0);
+            }
+            if x.iter().any(|&v| outside(v)) {
+                return r.answer(5, 0, 0);
+            }
+            let (bits, err, values) = bin_of(hebap, gk, &x);
+            r.arg32(err.to_bits()).floats(&values).answer(0, bits as usize, 0)
+        }
+        // plan_aht_channel: start at the position's byte, end as the number of 64 bits; the mode is the fourth argument, the count the byte after
+        14 => {
+            let bins = if i % 10 == 0 { 0 } else { 1 + random.below(5) };
+            let (mut row, mut x) = channel(random, bins);
+            let (mut start, mut end) = (0, bins);
+            match i % 12 {
+                1 => start = random.below(bins + 2),
+                2 => end = random.pick(&[256, 257, usize::MAX]),
+                3 if bins > 0 => row[random.below(bins)] = 20 + random.below(236) as u8,
+                4 if bins > 0 => x[random.below(6 * bins)] = random.pick(&[f32::INFINITY, -1025.0, 1024.0]),
+                5 => x.truncate(random.below(6 * bins + 1)),
+                6 => row.truncate(random.below(bins + 1)),
+                _ => {}
+            }
+            let r = Record::new(f).at(8 * start, 0).arg64(end).src(&row).vectors(&x);
+            let number = cause(&row, start, end, &x);
+            if number > 0 {
+                return r.answer(number, 0, 0);
+            }
+            let p = ahtenc::plan_aht_channel(&row, start, end, &vectors(&x));
+            let mut r = r.args(&[0, 0, 0, p.gaqmod]).answer(0, p.payload_bits as usize, 8 * p.gains.len());
+            for (place, &code) in r.0[80..104].iter_mut().zip(&p.gains) {
+                *place = [1, 2, 4][code as usize];
+            }
+            r
+        }
         // read_scalar_aht_mantissas: first every hebap and gain, with codes chosen so that half of them are behind the tag
         _ if i < 216 => {
             let (hebap, gain) = (8 + (i % 36 / 3) as u8, i % 3);
@@ -231,4 +315,18 @@ fn scalar(f: u8, src: &[u8], at: usize, over: usize, hebap: u8, mode: u8, gaqbin
         }
         Err(_) => r.out(&before, &before).answer(8, 0, at),
     }
+}
+
+/// Every hebap from 7 to 20 with every gain, and one that is none.
+fn gain_of(i: usize) -> (u8, u8) {
+    (7 + (i % 14) as u8, [1, 2, 4, 1, 4, 2, 3][i / 14 % 7])
+}
+
+/// Six components, now and then one that is not answered.
+fn six(random: &mut Random, i: usize, mut one: impl FnMut(&mut Random) -> f32) -> [f32; 6] {
+    let mut x = core::array::from_fn(|_| one(random));
+    if i % 11 == 5 {
+        x[i % 6] = random.pick(&[f32::INFINITY, f32::NEG_INFINITY, 1024.0001, -4096.0, 1024.0]);
+    }
+    x
 }

@@ -1,5 +1,8 @@
 -- The answers of the crates below as C has them: the number of a refusal, 0 for none, and what each lent place holds afterwards.
 use Prim.Native.Nat.{ℕ}
+use mathlib.Core.Bool.{cond}
+use lib.Dec.{eqb}
+use lib.Ieee.{Float}
 use Rattle.bits.specs.declared.BitPos.{BitPos}
 use Rattle.bits.specs.declared.BitRead.{BitRead}
 use Rattle.bits.specs.declared.BitWrite.{BitWrite}
@@ -7,7 +10,11 @@ use Rattle.tables.specs.declared.HebapResult.{HebapResult}
 use Rattle.gains.specs.declared.ByteResult.{ByteResult}
 use Rattle.gains.specs.declared.CountResult.{CountResult}
 use Rattle.gains.specs.declared.GainsResult.{GainsResult}
+use Rattle.levels.specs.declared.Code.{Code}
+use Rattle.levels.specs.Value.{valueIn}
 use Rattle.scalars.specs.declared.ScalarResult.{ScalarResult}
+use Rattle.books.specs.declared.SearchResult.{SearchResult}
+use Rattle.quantiser.specs.declared.ScalarCode.{ScalarCode}
 
 -- the position that a byte and a bit name
 abbrev pub place : ℕ → ℕ → BitPos
@@ -78,3 +85,40 @@ scalarNumber (ScalarResult.Refused n) = n
 abbrev pub scalarPlace : BitPos → ScalarResult → BitPos
 scalarPlace p (ScalarResult.Done q) = q
 scalarPlace p (ScalarResult.Refused n) = p
+
+abbrev pub searchNumber : SearchResult → ℕ
+searchNumber (SearchResult.Index k) = 0
+searchNumber (SearchResult.Refused n) = n
+
+abbrev pub searchValue : ℕ → SearchResult → ℕ
+searchValue v (SearchResult.Index k) = k
+searchValue v (SearchResult.Refused n) = v
+
+-- 1 for a large code, 0 for a small one
+abbrev pub largeOf : Code → ℕ
+largeOf (Code.Small s) = 0
+largeOf (Code.Large l) = 1
+
+abbrev pub codeOf : Code → ℕ
+codeOf (Code.Small s) = s
+codeOf (Code.Large l) = l
+
+abbrev pub pickedNumber : ScalarCode → ℕ
+pickedNumber (ScalarCode.Picked c l) = 0
+pickedNumber (ScalarCode.Refused n) = n
+
+abbrev pub pickedLarge : ℕ → ScalarCode → ℕ
+pickedLarge v (ScalarCode.Picked c l) = largeOf c
+pickedLarge v (ScalarCode.Refused n) = v
+
+abbrev pub pickedCode : ℕ → ScalarCode → ℕ
+pickedCode v (ScalarCode.Picked c l) = codeOf c
+pickedCode v (ScalarCode.Refused n) = v
+
+abbrev pub pickedValue : Float → ScalarCode → Float
+pickedValue v (ScalarCode.Picked c l) = valueIn l
+pickedValue v (ScalarCode.Refused n) = v
+
+-- What a lent place holds after an answer that is a struct with the number n in it: v, or w where n refuses.
+abbrev pub afterNumber : {A : Type 0} → ℕ → A → A → A
+afterNumber n v w = cond (eqb n 0) v w

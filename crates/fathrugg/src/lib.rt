@@ -6,13 +6,21 @@ ghost use Rattle.bits.specs.Bits.{bitAt, readU32, writeU32, written};
 ghost use Rattle.tables.specs.Tables.{hebapFromAddress};
 ghost use Rattle.gains.specs.Gains.{endbapForGaqmod, gaqGainValue, gaqSections, fillGaqbin, gaqbinAfter, readGaqGains, gainsAfter};
 ghost use Rattle.scalars.specs.Scalars.{scalarAnswer, scalarsRead, scalarsAfter};
-ghost use Rattle.fathrugg.specs.Answers.{place, readNumber, readValue, readPlace, writeNumber, writePlace, hebapNumber, hebapValue, byteNumber, byteValue, countNumber, countValue, gainsNumber, gainsValue, gainsPlace, scalarNumber, scalarPlace};
+ghost use Rattle.books.specs.Books.{vqLookup, vqSearch};
+ghost use Rattle.quantiser.specs.Quantise.{quantised, quantisedBin};
+ghost use Rattle.planner.specs.Planning.{planned};
+ghost use Rattle.fathrugg.specs.Answers.{place, readNumber, readValue, readPlace, writeNumber, writePlace, hebapNumber, hebapValue, byteNumber, byteValue, countNumber, countValue, gainsNumber, gainsValue, gainsPlace, scalarNumber, scalarPlace, searchNumber, searchValue, largeOf, codeOf, pickedNumber, pickedLarge, pickedCode, pickedValue, afterNumber};
 use bits::BitPos;
 use bits::BitRead;
 use bits::BitWrite;
+use books::SearchResult;
 use gains::ByteResult;
 use gains::CountResult;
 use gains::GainsResult;
+use levels::Code;
+use planner::Planned;
+use quantiser::QuantisedBin;
+use quantiser::ScalarCode;
 use scalars::ScalarResult;
 use tables::HebapResult;
 
@@ -228,4 +236,141 @@ pub extern "C" fn fathrugg_read_scalar_aht_mantissas(
             0
         }
     }
+}
+
+// The vector at an index of the book of the hebap. No refusal.
+#[no_mangle]
+pub extern "C" fn fathrugg_vq_lookup(hebap: u8, index: usize, out: &mut [f32; 6]) -> u8
+    ensures { λ r. ⌜ r ≡ 0 ⌝ }
+    ensures { λ r. ⌜ now (out .exit) ≡ vqLookup hebap index ⌝ }
+{
+    *out = books::vq_lookup(hebap, index);
+    0
+}
+
+// The index of the vector nearest to x in the book of the hebap. Refusal 5.
+#[no_mangle]
+pub extern "C" fn fathrugg_vq_search(hebap: u8, x: &[f32; 6], index: &mut usize) -> u8
+    ensures { λ r. ⌜ r ≡ searchNumber (vqSearch hebap (now (x .entry))) ⌝ }
+    ensures { λ r. ⌜ now (index .exit) ≡ searchValue (now (index .entry)) (vqSearch hebap (now (x .entry))) ⌝ }
+{
+    let answer = books::vq_search(hebap, x);
+    match answer {
+        SearchResult::Refused(k) => k,
+        SearchResult::Index(i) => {
+            *index = i;
+            0
+        }
+    }
+}
+
+fn large_of(code: Code) -> u8
+    ensures { λ r. ⌜ r ≡ largeOf code ⌝ }
+{
+    match code {
+        Code::Small(_) => 0,
+        Code::Large(_) => 1,
+    }
+}
+
+fn code_of(code: Code) -> u32
+    ensures { λ r. ⌜ r ≡ codeOf code ⌝ }
+{
+    match code {
+        Code::Small(s) => s,
+        Code::Large(l) => l,
+    }
+}
+
+// The code for x: whether it is large, its bits, and the f32 that it stands for. Refusals 11, 5.
+#[no_mangle]
+pub extern "C" fn fathrugg_quantise_scalar(
+    hebap: u8,
+    gk: u8,
+    x: f32,
+    large: &mut u8,
+    code: &mut u32,
+    value: &mut f32,
+) -> u8
+    ensures { λ r. ⌜ r ≡ pickedNumber (quantised hebap gk x) ⌝ }
+    ensures { λ r. ⌜ now (large .exit) ≡ pickedLarge (now (large .entry)) (quantised hebap gk x) ⌝ }
+    ensures { λ r. ⌜ now (code .exit) ≡ pickedCode (now (code .entry)) (quantised hebap gk x) ⌝ }
+    ensures { λ r. ⌜ now (value .exit) ≡ pickedValue (now (value .entry)) (quantised hebap gk x) ⌝ }
+{
+    let answer = quantiser::quantise_scalar(hebap, gk, x);
+    match answer {
+        ScalarCode::Refused(k) => k,
+        ScalarCode::Picked(c, l) => {
+            *large = large_of(c);
+            *code = code_of(c);
+            *value = levels::value_of(l);
+            0
+        }
+    }
+}
+
+fn values_of(b: QuantisedBin) -> [f32; 6]
+    ensures { λ r. ⌜ r ≡ b .values ⌝ }
+{
+    b.values
+}
+
+// The six values of a bin, its bits and the sum of its squared errors. Refusals 11, 5.
+#[no_mangle]
+pub extern "C" fn fathrugg_quantise_bin(
+    hebap: u8,
+    gk: u8,
+    x: &[f32; 6],
+    values: &mut [f32; 6],
+    bits: &mut u32,
+    err: &mut f32,
+) -> u8
+    ensures { λ r. ⌜ r ≡ quantisedBin hebap gk (now (x .entry)) .refusal ⌝ }
+    ensures { λ r. ⌜ now (values .exit) ≡ afterNumber (quantisedBin hebap gk (now (x .entry)) .refusal) (quantisedBin hebap gk (now (x .entry)) .values) (now (values .entry)) ⌝ }
+    ensures { λ r. ⌜ now (bits .exit) ≡ afterNumber (quantisedBin hebap gk (now (x .entry)) .refusal) (quantisedBin hebap gk (now (x .entry)) .bits) (now (bits .entry)) ⌝ }
+    ensures { λ r. ⌜ now (err .exit) ≡ afterNumber (quantisedBin hebap gk (now (x .entry)) .refusal) (quantisedBin hebap gk (now (x .entry)) .err) (now (err .entry)) ⌝ }
+{
+    let b = quantiser::quantise_bin(hebap, gk, x);
+    if b.refusal == 0 {
+        *values = values_of(b);
+        *bits = b.bits;
+        *err = b.err;
+        return 0;
+    }
+    b.refusal
+}
+
+fn gains_of(p: Planned) -> [u8; 256]
+    ensures { λ r. ⌜ r ≡ p .plan .gains ⌝ }
+{
+    p.plan.gains
+}
+
+// The plan of the bins start to end - 1: its mode, its gains in bin order, how many, and its payload. Refusals 1 to 5.
+#[no_mangle]
+pub extern "C" fn fathrugg_plan_aht_channel(
+    hebap: &[u8],
+    start: usize,
+    end: usize,
+    x: &[f32],
+    mode: &mut u8,
+    gains: &mut [u8; 256],
+    count: &mut usize,
+    payload: &mut u32,
+) -> u8
+    ensures { λ r. ⌜ r ≡ planned (now (hebap .entry)) start end (now (x .entry)) .refusal ⌝ }
+    ensures { λ r. ⌜ now (mode .exit) ≡ afterNumber (planned (now (hebap .entry)) start end (now (x .entry)) .refusal) (planned (now (hebap .entry)) start end (now (x .entry)) .plan .mode) (now (mode .entry)) ⌝ }
+    ensures { λ r. ⌜ now (gains .exit) ≡ afterNumber (planned (now (hebap .entry)) start end (now (x .entry)) .refusal) (planned (now (hebap .entry)) start end (now (x .entry)) .plan .gains) (now (gains .entry)) ⌝ }
+    ensures { λ r. ⌜ now (count .exit) ≡ afterNumber (planned (now (hebap .entry)) start end (now (x .entry)) .refusal) (planned (now (hebap .entry)) start end (now (x .entry)) .plan .count) (now (count .entry)) ⌝ }
+    ensures { λ r. ⌜ now (payload .exit) ≡ afterNumber (planned (now (hebap .entry)) start end (now (x .entry)) .refusal) (planned (now (hebap .entry)) start end (now (x .entry)) .plan .payload) (now (payload .entry)) ⌝ }
+{
+    let p = planner::plan_aht_channel(hebap, start, end, x);
+    if p.refusal == 0 {
+        *mode = p.plan.mode;
+        *gains = gains_of(p);
+        *count = p.plan.count;
+        *payload = p.plan.payload;
+        return 0;
+    }
+    p.refusal
 }

@@ -1,7 +1,7 @@
 -- Gain-adaptive quantisation: which bins have a gain, and how gains stand in the field. ATSC A/52 Annex E, 3.4.2 and 3.4.4.2, Tables E3.3 and E3.4.
 use Prim.Native.Nat.{ℕ, zero, suc, _+_, _-_, _*_, _/_, _%_, min}
 use mathlib.Core.List.{List, [], _∷_, _++_, map}
-use mathlib.Core.Bool.{Bool, cond, _&&_}
+use mathlib.Core.Bool.{Bool, false, cond, not, _&&_, _||_}
 use lib.Dec.{eqb, leb, ltb}
 use lib.IntN.{ℤ, pos, negsuc}
 use lib.ListN.{length, take, drop}
@@ -10,6 +10,7 @@ use Rattle.gains.specs.declared.ByteResult.{ByteResult}
 use Rattle.gains.specs.declared.ByteResult.the-variants.{Value}
 use Rattle.gains.specs.declared.CountResult.{CountResult}
 use Rattle.gains.specs.declared.CountResult.the-variants.{Count}
+use Rattle.gains.specs.declared.Coding.{Coding}
 use Rattle.gains.specs.declared.GainsResult.{GainsResult}
 use Rattle.gains.specs.declared.GainsResult.the-variants.{Codes}
 
@@ -30,6 +31,17 @@ unfoldable pub markedBins : ℕ → List ℕ → ℕ
 markedBins mode [] = 0
 markedBins mode (h ∷ row) = cond (marked mode h) 1 0 + markedBins mode row
 
+-- a bin is active, with a gain of its own, where it is marked; in mode 0 none is, since no gain is read there
+unfoldable pub active : ℕ → ℕ → Bool
+active mode h = not (eqb mode 0) && marked mode h
+
+-- how a bin is coded: hebap 0 not at all, 1 to 7 by an index of its book, 8 to 19 by six codes, at its own gain or at Gk 1
+unfoldable pub codingOf : ℕ → ℕ → Coding
+codingOf mode h =
+    cond (eqb h 0) Coding.Nothing
+    (cond (leb h 7) Coding.Book
+    (cond (active mode h) Coding.Adaptive Coding.Fixed))
+
 -- chgaqsections: the gain words of n active bins
 unfoldable pub sections : ℕ → ℕ → ℕ
 sections mode n = cond (eqb mode 0) 0 (cond (eqb mode 3) ((n + 2) / 3) n)
@@ -43,9 +55,24 @@ gainValue code mode =
     (cond (eqb mode 2) 4
     (cond (eqb mode 3) (cond (eqb code 1) 2 4) 1)))
 
+-- the gains that a mode allows its active bins: 1, and these
+unfoldable pub otherGains : ℕ → List ℕ
+otherGains mode = cond (eqb mode 1) (2 ∷ []) (cond (eqb mode 2) (4 ∷ []) (cond (eqb mode 3) (2 ∷ 4 ∷ []) []))
+
+abbrev pub member : ℕ → List ℕ → Bool
+member g [] = false
+member g (k ∷ ks) = eqb g k || member g ks
+
+unfoldable pub allowedGain : ℕ → ℕ → Bool
+allowedGain mode g = member g (1 ∷ otherGains mode)
+
 -- the bits of a gain word: one a gain in modes 1 and 2, five for three gains in mode 3
 unfoldable pub wordBits : ℕ → ℕ
 wordBits mode = cond (eqb mode 3) 5 1
+
+-- the bits of the gain words of n active bins: a bit each in modes 1 and 2, 5 bits for each three begun in mode 3
+unfoldable pub gainWordBits : ℕ → ℕ → ℕ
+gainWordBits mode n = wordBits mode * sections mode n
 
 -- the codes of a gain word: the bit itself, or grpgain / 9, grpgain % 9 / 3 and grpgain % 9 % 3, where words 27 to 31 have their first cut to 2 (as the Rust)
 unfoldable pub wordCodes : ℕ → ℕ → List ℕ

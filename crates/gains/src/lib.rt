@@ -4,7 +4,7 @@ ghost use mathlib.Core.List.{_∷_, []};
 ghost use Prim.Native.Nat.{_+_, _*_, _/_, _≤_, min};
 ghost use lib.ListN.{length, drop};
 ghost use Rattle.bits.specs.Bits.{bitsOf, bitAt};
-ghost use Rattle.gains.specs.Gains.{endbapForGaqmod, gainValue, gaqGainValue, gaqSections, fillGaqbin, gaqbinAfter, endbap, gaqbinOf, wordBits, wordCodes, wordsRead, codesFrom, placed, readGaqGains, gainsAfter};
+ghost use Rattle.gains.specs.Gains.{active, codingOf, allowedGain, gainWordBits, endbapForGaqmod, gainValue, gaqGainValue, gaqSections, fillGaqbin, gaqbinAfter, endbap, gaqbinOf, wordBits, wordCodes, wordsRead, codesFrom, placed, readGaqGains, gainsAfter};
 use bits::BitPos;
 use bits::BitRead;
 
@@ -24,6 +24,82 @@ pub enum CountResult {
 pub enum GainsResult {
     Codes(usize, BitPos),
     Refused(u8),
+}
+
+// How a bin is coded: not at all, by an index of its book, by six codes at Gk 1, or by six codes at a gain of its own.
+pub enum Coding {
+    Nothing,
+    Book,
+    Fixed,
+    Adaptive,
+}
+
+// How a bin of the hebap is coded in the mode.
+pub fn coding_of(gaqmod: u8, hebap: u8) -> Coding
+    ensures { λ r. ⌜ r ≡ codingOf gaqmod hebap ⌝ }
+{
+    match hebap {
+        0 => Coding::Nothing,
+        1..=7 => Coding::Book,
+        8..=11 => {
+            if 0 < gaqmod {
+                Coding::Adaptive
+            } else {
+                Coding::Fixed
+            }
+        }
+        12..=16 => {
+            if 1 < gaqmod {
+                Coding::Adaptive
+            } else {
+                Coding::Fixed
+            }
+        }
+        _ => Coding::Fixed,
+    }
+}
+
+// Whether a bin of the hebap has a gain of its own in the mode.
+pub fn is_active(gaqmod: u8, hebap: u8) -> bool
+    ensures { λ r. ⌜ r ≡ active gaqmod hebap ⌝ }
+{
+    match hebap {
+        8..=11 => 0 < gaqmod,
+        12..=16 => 1 < gaqmod,
+        _ => false,
+    }
+}
+
+// The bits of the gain words of n active bins.
+pub fn gain_word_bits(gaqmod: u8, n: u32) -> u32
+    requires { ⌜ n ≤ 65536 ⌝ }
+    ensures { λ r. ⌜ r ≡ gainWordBits gaqmod n ⌝ }
+{
+    match gaqmod {
+        0 => 0,
+        3 => (n + 2) / 3 * 5,
+        _ => n,
+    }
+}
+
+// Whether the mode allows the gain.
+pub fn is_allowed(gaqmod: u8, gain: u8) -> bool
+    ensures { λ r. ⌜ r ≡ allowedGain gaqmod gain ⌝ }
+{
+    if gain == 1 {
+        return true;
+    }
+    match gaqmod {
+        1 => gain == 2,
+        2 => gain == 4,
+        3 => {
+            if gain == 2 {
+                return true;
+            }
+            gain == 4
+        }
+        _ => false,
+    }
 }
 
 fn end_of(gaqmod: u8) -> u8

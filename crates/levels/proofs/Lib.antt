@@ -4,3 +4,4 @@ pub mod Distinct
 pub mod Rows
 pub mod Sizes
 pub mod CodeLaws
+pub mod Range

@@ -1,12 +1,13 @@
 // The levels of a scalar mantissa: its codes, and their f32 and exact values.
 ghost use mathlib.Core.Path.{_≡_};
-ghost use mathlib.Core.Bool.{cond};
+ghost use mathlib.Core.Bool.{cond, not};
 ghost use Prim.Native.Nat.{_-_, _*_, _<_, _≤_, _^_};
 ghost use lib.Dec.{eqb};
 ghost use lib.IntN.{pos, natAbs, _+ℤ_, _*ℤ_};
 ghost use lib.Signed.{mag};
 ghost use Rattle.tables.specs.Tables.{mantBits};
-ghost use Rattle.levels.specs.Codes.{signed, smallBits, largeBits, Accepted};
+ghost use Rattle.levels.specs.Component.{tooLarge, someTooLarge};
+ghost use Rattle.levels.specs.Codes.{signed, smallBits, largeBits, codeBits, Accepted};
 ghost use Rattle.levels.specs.Exact.{slope, offsetBySign, exactSmall, exactLarge, exactOf};
 ghost use Rattle.levels.specs.Value.{q15 as q15Of, power, offsetAt, gaqRemap, scaled, divided, smallValue, largeValue, levelOf, valueIn};
 
@@ -49,6 +50,23 @@ pub fn large_bits(m: u32, gk: u8) -> u32
     if gk == 2 { m - 1 } else { m }
 }
 
+// How many bits a code takes, its tag with it.
+pub fn code_bits(hebap: u8, gk: u8, code: Code) -> u32
+    requires { ⌜ (8 ≤ hebap) × (hebap ≤ 19) ⌝ }
+    ensures { λ r. ⌜ r ≡ codeBits (mantBits hebap) gk code ⌝ }
+{
+    let m = mant(hebap);
+    match code {
+        Code::Small(_) => small_bits(m, gk),
+        Code::Large(_) => {
+            if gk == 1 {
+                return m;
+            }
+            small_bits(m, gk) + large_bits(m, gk)
+        }
+    }
+}
+
 // Two's complement of w bits.
 fn signed_code(u: u32, w: u32) -> i32
     requires { ⌜ (1 ≤ w) × (w ≤ 16) × (u < 2 ^ w) ⌝ }
@@ -61,9 +79,34 @@ fn signed_code(u: u32, w: u32) -> i32
     }
 }
 
+// Whether a component is answered: no NaN, and at most 1024 in size.
+pub fn in_range(x: f32) -> bool
+    ensures { λ r. ⌜ r ≡ not (tooLarge x) ⌝ }
+{
+    if x >= -1024.0 {
+        return x <= 1024.0;
+    }
+    false
+}
+
+// Whether some component is not answered.
+pub fn any_too_large(x: &[f32]) -> bool
+    ensures { λ r. ⌜ r ≡ someTooLarge (now (x .entry)) ⌝ }
+{
+    let mut j: usize = 0;
+    while j < x.len() {
+        if in_range(x[j]) {
+            j += 1;
+        } else {
+            return true;
+        }
+    }
+    false
+}
+
 // ---- f32 values
 
-fn scale(n: u32) -> f32
+pub fn scale(n: u32) -> f32
     requires { ⌜ n ≤ 16 ⌝ }
     ensures { λ r. ⌜ r ≡ power n ⌝ }
 {
@@ -78,7 +121,7 @@ fn scaled_code(k: i32, n: u32) -> f32
     k as f32 * (1.0 / scale(n))
 }
 
-fn divided_code(k: i32, n: u32) -> f32
+pub fn divided_code(k: i32, n: u32) -> f32
     requires { ⌜ mag k < 2 ^ 24 ⌝ }
     requires { ⌜ n ≤ 16 ⌝ }
     ensures { λ r. ⌜ r ≡ divided n k ⌝ }
@@ -86,7 +129,7 @@ fn divided_code(k: i32, n: u32) -> f32
     k as f32 / scale(n)
 }
 
-fn q15(v: i16) -> f32
+pub fn q15(v: i16) -> f32
     ensures { λ r. ⌜ r ≡ q15Of v ⌝ }
 {
     v as f32 / 32768.0

@@ -4,15 +4,21 @@ ghost use Prim.Native.Nat.{_+_, _<_, _≤_};
 use bits::BitPos;
 use bits::BitRead;
 use bits::BitWrite;
+use books::SearchResult;
 use gains::ByteResult;
 use gains::CountResult;
 use gains::GainsResult;
+use levels::Code;
 use libc::STDIN_FILENO;
 use libc::STDOUT_FILENO;
+use planner::Plan;
+use planner::Planned;
+use quantiser::QuantisedBin;
+use quantiser::ScalarCode;
 use scalars::ScalarResult;
 use tables::HebapResult;
 
-type Record = [u8; 128];
+type Record = [u8; 256];
 
 // The places of a record.
 const REFUSAL: usize = 1;
@@ -49,6 +55,8 @@ const NEXT_BYTE: usize = 112;
 
 const NEXT_BIT: usize = 120;
 
+const VECTORS: usize = 128;
+
 // A function, how many answers of it were replayed, and how many of them were wrong.
 pub struct Count {
     pub function: u8,
@@ -64,21 +72,21 @@ fn wide(b: u8) -> u64
 
 // The numbers of 16, 32 and 64 bits at a place, the least significant byte first.
 fn number16(r: &Record, at: usize) -> u64
-    requires { ⌜ at + 2 ≤ 128 ⌝ }
+    requires { ⌜ at + 2 ≤ 256 ⌝ }
     ensures { λ v. ⌜ v < 0x1_0000 ⌝ }
 {
     wide(r[at]) + 256 * wide(r[at + 1])
 }
 
 fn number32(r: &Record, at: usize) -> u64
-    requires { ⌜ at + 4 ≤ 128 ⌝ }
+    requires { ⌜ at + 4 ≤ 256 ⌝ }
     ensures { λ v. ⌜ v < 0x1_0000_0000 ⌝ }
 {
     number16(r, at) + 0x1_0000 * number16(r, at + 2)
 }
 
 fn number64(r: &Record, at: usize) -> u64
-    requires { ⌜ at + 8 ≤ 128 ⌝ }
+    requires { ⌜ at + 8 ≤ 256 ⌝ }
 {
     number32(r, at) + 0x1_0000_0000 * number32(r, at + 4)
 }
@@ -249,23 +257,23 @@ fn replay_gains(r: Record) -> bool {
     }
 }
 
-// Whether y has the bits that the record has for the value j. A NaN has no bits of its own, and no answer is one.
-fn same_float(r: &Record, j: usize, y: f32) -> bool
-    requires { ⌜ j < 6 ⌝ }
+// Whether y has the bits that the record has at a place. A NaN has no bits of its own, and no answer is one.
+fn same_float(r: &Record, at: usize, y: f32) -> bool
+    requires { ⌜ at + 4 ≤ 256 ⌝ }
 {
     if y != y {
         return false;
     }
-    f32::to_bits(y) == number32(r, OUT_AFTER + 4 * j) as u32
+    f32::to_bits(y) == number32(r, at) as u32
 }
 
 fn same_floats(r: &Record, y: &[f32; 6]) -> bool {
-    same_float(r, 0, y[0])
-        && same_float(r, 1, y[1])
-        && same_float(r, 2, y[2])
-        && same_float(r, 3, y[3])
-        && same_float(r, 4, y[4])
-        && same_float(r, 5, y[5])
+    same_float(r, OUT_AFTER, y[0])
+        && same_float(r, OUT_AFTER + 4, y[1])
+        && same_float(r, OUT_AFTER + 8, y[2])
+        && same_float(r, OUT_AFTER + 12, y[3])
+        && same_float(r, OUT_AFTER + 16, y[4])
+        && same_float(r, OUT_AFTER + 20, y[5])
 }
 
 fn replay_scalars(r: &Record) -> bool {
@@ -290,6 +298,114 @@ fn replay_scalars(r: &Record) -> bool {
     }
 }
 
+// The f32 of these bits. No record has a NaN, whose bits name no number.
+fn float_of(bits: u32) -> f32 {
+    if 0x7f80_0000 < bits % 0x8000_0000 {
+        return 0.0;
+    }
+    f32::from_bits(bits)
+}
+
+// The number j of the vectors.
+fn component(r: &Record, j: usize) -> f32
+    requires { ⌜ j < 30 ⌝ }
+{
+    float_of(number32(r, VECTORS + 4 * j) as u32)
+}
+
+fn six(r: &Record) -> [f32; 6] {
+    [
+        component(r, 0),
+        component(r, 1),
+        component(r, 2),
+        component(r, 3),
+        component(r, 4),
+        component(r, 5),
+    ]
+}
+
+fn replay_lookup(r: &Record, answer: [f32; 6]) -> bool {
+    same_floats(r, &answer) && same_value(r, 0, 0)
+}
+
+fn replay_search(r: &Record, answer: SearchResult) -> bool {
+    match answer {
+        SearchResult::Index(i) => same_value(r, 0, i as u64),
+        SearchResult::Refused(k) => same_value(r, k, 0),
+    }
+}
+
+fn search(r: &Record, x: [f32; 6]) -> SearchResult {
+    books::vq_search(r[A], &x)
+}
+
+fn same_code(r: &Record, code: Code) -> bool {
+    match code {
+        Code::Small(s) => r[C] == 0 && same_value(r, 0, s as u64),
+        Code::Large(l) => r[C] == 1 && same_value(r, 0, l as u64),
+    }
+}
+
+fn replay_scalar(r: &Record, answer: ScalarCode) -> bool {
+    match answer {
+        ScalarCode::Picked(code, level) => {
+            same_code(r, code) && same_float(r, OUT_AFTER, levels::value_of(level))
+        }
+        ScalarCode::Refused(k) => same_value(r, k, 0),
+    }
+}
+
+fn bin(r: &Record, x: [f32; 6]) -> QuantisedBin {
+    quantiser::quantise_bin(r[A], r[B], &x)
+}
+
+fn replay_bin(r: &Record, answer: QuantisedBin) -> bool {
+    let values = answer.values;
+    same_value(r, answer.refusal, answer.bits as u64)
+        && same_float(r, ARG32, answer.err)
+        && same_floats(r, &values)
+}
+
+fn vectors(r: &Record) -> [f32; 30] {
+    let mut x = [0.0f32; 30];
+    let mut j: usize = 0;
+    while j < 30 {
+        x[j] = component(r, j);
+        j += 1;
+    }
+    x
+}
+
+// How many numbers the vectors have, at most 30.
+fn components(b: u8) -> usize
+    ensures { λ n. ⌜ n ≤ 30 ⌝ }
+{
+    if b < 30 { b as usize } else { 30 }
+}
+
+fn plan(r: &Record, x: [f32; 30]) -> Planned {
+    let n = components(r[OUT_LEN]);
+    let start = number64(r, BYTE) as usize;
+    let end = number64(r, ARG64) as usize;
+    planner::plan_aht_channel(input(r), start, end, &x[0..n])
+}
+
+fn same_gains(r: &Record, gains: [u8; 256]) -> bool {
+    let given = &gains[..];
+    let wanted = &r[..];
+    check::same(&given[0..24], &wanted[80..104])
+}
+
+fn same_plan(r: &Record, p: Plan) -> bool {
+    let gains = p.gains;
+    r[D] == p.mode && number64(r, NEXT_BYTE) == p.count as u64 && same_gains(r, gains)
+}
+
+fn replay_plan(r: &Record, answer: Planned) -> bool {
+    let p = answer.plan;
+    same_value(r, answer.refusal, p.payload as u64) && same_plan(r, p)
+}
+
 // Whether the call of the record gives the record's answer.
 fn right(r: &Record) -> bool {
     let function = r[0];
@@ -303,6 +419,11 @@ fn right(r: &Record) -> bool {
         7 => replay_byte(r, gains::gaq_gain_value(r[A], r[B])),
         8 => replay_gains(*r),
         9 => replay_scalars(r),
+        10 => replay_lookup(r, books::vq_lookup(r[A], number64(r, ARG64) as usize)),
+        11 => replay_search(r, search(r, six(r))),
+        12 => replay_scalar(r, quantiser::quantise_scalar(r[A], r[B], component(r, 0))),
+        13 => replay_bin(r, bin(r, six(r))),
+        14 => replay_plan(r, plan(r, vectors(r))),
         _ => false,
     }
 }
@@ -318,6 +439,11 @@ fn say(function: u8) -> bool {
         7 => io::write_all(STDOUT_FILENO, b"gaq_gain_value: "),
         8 => io::write_all(STDOUT_FILENO, b"read_gaq_gains: "),
         9 => io::write_all(STDOUT_FILENO, b"read_scalar_aht_mantissas: "),
+        10 => io::write_all(STDOUT_FILENO, b"vq_lookup: "),
+        11 => io::write_all(STDOUT_FILENO, b"vq_search: "),
+        12 => io::write_all(STDOUT_FILENO, b"quantise_scalar: "),
+        13 => io::write_all(STDOUT_FILENO, b"quantise_bin: "),
+        14 => io::write_all(STDOUT_FILENO, b"plan_aht_channel: "),
         _ => io::write_all(STDOUT_FILENO, b"no function: "),
     }
 }
@@ -361,12 +487,12 @@ fn counted(c: Count, r: &Record) -> Count {
 
 // Reads the next record; false where the input has no whole one any more.
 fn next(r: &mut Record) -> bool {
-    io::read_full(STDIN_FILENO, &mut *r) == 128
+    io::read_full(STDIN_FILENO, &mut *r) == 256
 }
 
 // A proved loop has to end, so it counts its turns down, from a number that no input uses up.
 fn main() {
-    let mut record = [0u8; 128];
+    let mut record = [0u8; 256];
     let mut c = Count {
         function: 0,
         answers: 0,

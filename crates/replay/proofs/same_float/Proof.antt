@@ -19,12 +19,6 @@ returns c = tt
 float-to-bits-result : tie.Need-float-to-bits-result
 float-to-bits-result c = is-number (c .before .args .y) (c .if1 .left)
 
-mul-number32 : tie.Need-mul-number32
-mul-number32 c = search needs
-
-add-number32 : tie.Need-add-number32
-add-number32 c = search needs
-
 number32-requires : tie.Need-number32-requires
 number32-requires c κs = search needs
 
@@ -35,4 +29,4 @@ returns-2 : tie.Need-returns-2
 returns-2 c = tt
 
 pub same-float-spec : {M : Type 1} → statement M
-same-float-spec = tie.close (tie.spec returns float-to-bits-result mul-number32 add-number32 number32-requires cast-result returns-2)
+same-float-spec = tie.close (tie.spec returns float-to-bits-result number32-requires cast-result returns-2)

@@ -1,0 +1,29 @@
+-- `fathrugg::fathrugg_quantise_bin` meets its contract: what the call below answers is handed on. Assumes nothing.
+use mathlib.Core.Path.{refl, sym}
+use borrow.Author.Tests.{ne-eqb}
+use borrow.Author.Needs.{needs}
+use Rattle.fathrugg.proofs.fathrugg_quantise_bin.Statement.{statement}
+use Rattle.fathrugg.proofs.fathrugg_quantise_bin.Tie as tie
+
+quantise-bin-requires : tie.Need-quantise-bin-requires
+quantise-bin-requires c κs = search needs
+
+values-of-requires : tie.Need-values-of-requires
+values-of-requires c κs = search needs
+
+returns : tie.Need-returns
+returns c =
+    let e = sym (c .before .before .before .quantise-bin .ensures) in
+    let t = c .before .if1 .taken in
+    (rw e (sym t), (rw (e, t) (c .values-of .ensures), (rw (e, t) refl, rw (e, t) refl)))
+
+returns-2 : tie.Need-returns-2
+returns-2 c =
+    let e = sym (c .before .before .quantise-bin .ensures) in
+    let f = ne-eqb _ _ (c .if1 .left) in
+    (rw e refl, (rw (e, f) refl, (rw (e, f) refl, rw (e, f) refl)))
+
+pub fathrugg-quantise-bin-spec : {M : Type 1} → statement M
+fathrugg-quantise-bin-spec =
+    tie.close
+    (tie.spec quantise-bin-requires values-of-requires returns returns-2)

@@ -1,0 +1,88 @@
+-- The test of a component's size. Assumes nothing.
+use mathlib.Core.Path.{_≡_, refl, sym, ap, _∙_, subst}
+use mathlib.Core.Bool.{Bool, true, false, not, cond, _&&_, _||_, true≢false}
+use mathlib.Core.List.{List, _∷_}
+use mathlib.Core.Logic.{inl, inr}
+use Prim.Native.Nat.{ℕ, zero, suc, _+_, _-_, _*_, _≤_, _<_}
+use native.Mathlib.Nat.{eq-or-lt-of-le, mul-one}
+use native.Mathlib.Numerals.{add-one}
+use native.Mathlib.Omega.{arith}
+use borrow.Author.Tests.{le-leb, lt-ltb, le-ltb, eq-eqb, ne-eqb, ltb-true, ltb-false}
+use lib.Dec.{T, ltb, eqb}
+use lib.IntN.{ℤ, pos, negsuc}
+use lib.ListN.{length, drop, getD, drop-of-length-le}
+use lib.Seq.{drop-cons}
+use lib.Ieee.{Float, nan, inf, fin, up, down, binary32, ofBits, neg, lt, eq, le}
+use lib.Ieee.Fits.{down-pos}
+use Rattle.levels.specs.Component.{tooLarge, someTooLarge}
+
+abbrev pub f1024 : Float
+f1024 = fin false 1 (pos 10)
+
+or-left : (a b : Bool) → a ≡ true → a || b ≡ true
+or-left true b h = refl
+or-left false b h = absurd (true≢false (sym h))
+
+or-true : (a b : Bool) → b ≡ true → a || b ≡ true
+or-true true b h = refl
+or-true false b h = h
+
+-- a ≤ b as two tests, and as one
+two-tests : (a b : ℕ) (q : Bool) → (a ≡ b → q ≡ true) → ((a ≡ b → ⊥) → q ≡ false) → ltb a b || q ≡ not (ltb b a)
+two-tests a b q y n = go (ltb b a) refl
+  where
+    small : (a ≤ b) → ltb a b || q ≡ true
+    small h = elim (eq-or-lt-of-le h) [
+      | inl e ↦ or-true (ltb a b) q (y e)
+      | inr l ↦ ap (λ (t : Bool). t || q) (lt-ltb a b l)
+    ]
+
+    go : (t : Bool) → ltb b a ≡ t → ltb a b || q ≡ not t
+    go true h = let l : b < a = ltb-true b a h in ap (λ (t : Bool). t || q) (le-ltb a b (omega arith)) ∙ n (λ (e : a ≡ b). omega arith)
+    go false h = small (ltb-false b a h)
+
+and-left : (a b : Bool) → b ≡ true → a && b ≡ a
+and-left true b h = h
+and-left false b h = refl
+
+not-two : (b : Bool) → not (not b) ≡ b
+not-two true = refl
+not-two false = refl
+
+above : (m : ℕ) (e : ℤ) → 0 < m * up e * 1 + 1024 * down e
+above m e = let d : 0 < down e = down-pos e in omega arith
+
+lower : (m : ℕ) (e : ℤ) → le (fin true 1 (pos 10)) (fin true m e) ≡ not (ltb (1024 * down e) (m * up e))
+unfolding le lt eq
+lower m e =
+    two-tests (m * up e * 1) (1024 * down e) (eqb (1024 * down e) (m * up e * 1) && true) (λ (q : m * up e * 1 ≡ 1024 * down e). and-left _ true refl ∙ eq-eqb _ _ (sym q)) (λ (n : m * up e * 1 ≡ 1024 * down e → ⊥). and-left _ true refl ∙ ne-eqb _ _ (λ (q : 1024 * down e ≡ m * up e * 1). n (sym q)))
+    ∙ ap (λ (a : ℕ). not (ltb (1024 * down e) a)) (mul-one (m * up e))
+
+pub range-low : (x : Float) → le (fin true 1 (pos 10)) x ≡ true → le x f1024 ≡ not (tooLarge x)
+unfolding le lt eq tooLarge
+range-low nan h = refl
+range-low (inf true) h = absurd (true≢false (sym h))
+range-low (inf false) h = refl
+range-low (fin false m e) h = two-tests (m * up e * 1) (1024 * down e) (eqb (m * up e * 1) (1024 * down e) && true) (λ (q : m * up e * 1 ≡ 1024 * down e). and-left _ true refl ∙ eq-eqb _ _ q) (λ (n : m * up e * 1 ≡ 1024 * down e → ⊥). and-left _ true refl ∙ ne-eqb _ _ n) ∙ ap (λ (a : ℕ). not (ltb (1024 * down e) a)) (mul-one (m * up e))
+range-low (fin true m e) h = or-left _ _ (lt-ltb 0 (m * up e * 1 + 1024 * down e) (above m e)) ∙ sym (sym (lower m e) ∙ h)
+
+pub range-out : (x : Float) → le (fin true 1 (pos 10)) x ≡ false → false ≡ not (tooLarge x)
+unfolding le lt eq tooLarge
+range-out nan h = refl
+range-out (inf s) h = refl
+range-out (fin false m e) h = absurd (true≢false (sym (or-left _ _ (lt-ltb 0 (1024 * down e + m * up e * 1) (let a = above m e in omega arith))) ∙ h))
+range-out (fin true m e) h = sym (sym (lower m e) ∙ h)
+
+-- ---- a loop over components
+module _ (x : List Float) (j : ℕ) (h : j < length x) where
+  here : someTooLarge (drop j x) ≡ tooLarge (getD x j nan) || someTooLarge (drop (j + 1) x)
+  here = let d : drop j x ≡ getD x j nan ∷ drop (j + 1) x = rw add-one (drop-cons x j nan h) in ap someTooLarge d
+
+  pub some-turn : true ≡ not (tooLarge (getD x j nan)) → someTooLarge x ≡ someTooLarge (drop j x) → someTooLarge x ≡ someTooLarge (drop (j + 1) x)
+  some-turn e i = i ∙ here ∙ ap (λ (t : Bool). t || someTooLarge (drop (j + 1) x)) (sym (not-two (tooLarge (getD x j nan))) ∙ ap not (sym e))
+
+  pub some-found : false ≡ not (tooLarge (getD x j nan)) → someTooLarge x ≡ someTooLarge (drop j x) → true ≡ someTooLarge x
+  some-found e i = sym (i ∙ here ∙ ap (λ (t : Bool). t || someTooLarge (drop (j + 1) x)) (sym (not-two (tooLarge (getD x j nan))) ∙ ap not (sym e)))
+
+pub some-end : (x : List Float) (j : ℕ) → length x ≤ j → someTooLarge x ≡ someTooLarge (drop j x) → false ≡ someTooLarge x
+some-end x j h i = sym (i ∙ ap someTooLarge (drop-of-length-le x h))

@@ -1,0 +1,66 @@
+-- `levels::any_too_large` meets its contract: the answer is that of the components from j on. Assumes nothing.
+use Prim.Native.Nat.{_-_, _≤_}
+use mathlib.Core.Path.{_≡_, refl, sym, _∙_}
+use denote.Ref.{now}
+use lib.ListN.{length, drop}
+use Rattle.levels.specs.Component.{someTooLarge}
+use Rattle.levels.proofs.Range.{some-turn, some-found, some-end}
+use native.Mathlib.Omega.{arith}
+use borrow.Author.Needs.{needs}
+use Rattle.levels.proofs.any_too_large.Statement.{statement}
+use Rattle.levels.proofs.any_too_large.Tie as tie
+
+abbrev Inv-loop : tie.InvT-loop
+Inv-loop x j₀ j = (j ≤ length x) × (someTooLarge x ≡ someTooLarge (drop j x))
+
+abbrev μ-loop : tie.MeasureT-loop
+μ-loop x j₀ j = length x - j
+
+loop-holds : tie.Need-loop-holds Inv-loop μ-loop
+loop-holds c = (omega arith, refl)
+
+mul-in-range : tie.Need-mul-in-range Inv-loop μ-loop
+mul-in-range c = search needs
+
+shared-slice-read-in-range : tie.Need-shared-slice-read-in-range Inv-loop μ-loop
+shared-slice-read-in-range c = search needs
+
+in-range-requires : tie.Need-in-range-requires Inv-loop μ-loop
+in-range-requires c κs = search needs
+
+add-j : tie.Need-add-j Inv-loop μ-loop
+add-j c = search needs
+
+loop-less : tie.Need-loop-less Inv-loop μ-loop
+loop-less c = search needs
+
+loop-again : tie.Need-loop-again Inv-loop μ-loop
+loop-again c =
+    let r = c .before in
+    let l = r .before .before .before in
+    (omega arith, some-turn (now (l .before .before .args .x)) (l .loop .j) (omega arith) (sym (c .if1 .taken) ∙ r .in-range .ensures) (l .loop .inv .1))
+
+returns : tie.Need-returns Inv-loop μ-loop
+returns c =
+    let r = c .before in
+    let l = r .before .before .before in
+    some-found (now (l .before .before .args .x)) (l .loop .j) (omega arith) (sym (c .if1 .left) ∙ r .in-range .ensures) (l .loop .inv .1)
+
+returns-2 : tie.Need-returns-2 Inv-loop μ-loop
+returns-2 c = let l = c .before in some-end (now (l .before .before .args .x)) (l .loop .j) (omega arith) (l .loop .inv .1)
+
+pub any-too-large-spec : {M : Type 1} → statement M
+any-too-large-spec =
+    tie.close
+    (tie.spec
+    Inv-loop
+    μ-loop
+    loop-holds
+    mul-in-range
+    shared-slice-read-in-range
+    in-range-requires
+    add-j
+    loop-less
+    loop-again
+    returns
+    returns-2)

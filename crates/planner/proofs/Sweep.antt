@@ -1,0 +1,240 @@
+-- The loops over the bins: the tally of all modes, and the gains of one. Assumes nothing.
+use mathlib.Core.Path.{_≡_, refl, sym, ap, _∙_, subst}
+use mathlib.Core.Bool.{Bool, true, false, not, _&&_, _||_, cond, true≢false}
+use mathlib.Core.List.{List, [], _∷_, _++_, append-assoc}
+use mathlib.Core.Logic.{⊎-elim, inl, inr}
+use Prim.Native.Nat.{ℕ, suc, _+_, _-_, _*_, _≤_, _<_}
+use native.Mathlib.Nat.{le-refl, le-trans, le-of-eq, le-antisymm, add-zero}
+use native.Mathlib.Numerals.{add-one}
+use native.Mathlib.Omega.{arith}
+use borrow.Author.Tests.{le-leb, lt-leb, ne-eqb, eqb-true}
+use lib.Dec.{leb, eqb}
+use lib.ListN.{length, getD, drop, set, length-append, length-set}
+use lib.Seq.{set-at, drop-cons}
+use lib.Ieee.{Float, nan}
+use Rattle.tables.specs.Tables.{mantBits, vqBits}
+use Rattle.tables.proofs.Rules.{mant-bits, mant-none, vq-most}
+use Rattle.tables.proofs.Tests.{lt-or-le}
+use Rattle.levels.specs.Codes.{smallBits}
+use Rattle.quantiser.specs.Quantise.{smallOf, isSmall, scalarBits}
+use Rattle.gains.specs.Gains.{endbap, active, codingOf, otherGains, member, allowedGain, wordBits, sections, gainWordBits}
+use Rattle.gains.specs.declared.Coding.{Coding}
+use Rattle.gains.proofs.Cases.{active-range, three-gains}
+use Rattle.planner.specs.Bins.{sumOver, someOver}
+use Rattle.planner.specs.Planning.{outsideAt, tooLargeAt}
+use Rattle.planner.specs.Cost.{componentBits, sixBits, binBits}
+use Rattle.planner.specs.Choice.{activeAt, activeCount, bestGain, leastAt, leastOf, planMode, gainsOver, planPayload}
+use Rattle.planner.specs.Work.{costsOf, costIn, gainIn, codedBits, leastIn, tallyOf, withBin, payloadIn, modeIn, Bounded}
+use Rattle.planner.specs.declared.Costs.{Costs}
+use Rattle.planner.specs.declared.Tally.{Tally}
+use Rattle.planner.proofs.Over.{sum-none, sum-next, sum-at-most}
+use Rattle.planner.proofs.Optimal.{cheapest-in, cheapest-same, one-of, gains-step, gains-stay, gains-none, gains-length}
+use Rattle.planner.proofs.Codes.{component-is}
+use Rattle.planner.proofs.Steps.{sum-run-le}
+
+-- ---- bounds
+pub mant-most : (h : ℕ) → mantBits h ≤ 16
+mant-most h = ⊎-elim (λ (l : h < 8). le-trans (le-of-eq (mant-none h (inl (omega arith)))) (omega arith)) (λ (l : 8 ≤ h). ⊎-elim (λ (u : h < 20). mant-bits h l (omega arith) .1) (λ (u : 20 ≤ h). le-trans (le-of-eq (mant-none h (inr u))) (omega arith)) (lt-or-le h 20)) (lt-or-le h 8)
+
+scalar-most : (h g : ℕ) (x : Float) → scalarBits h g x ≤ 32
+unfolding scalarBits
+scalar-most h g x = let m = mant-most h in go (eqb g 1) (isSmall (smallBits (mantBits h) g) (smallOf (mantBits h - 1) x)) (eqb g 2) m
+  where
+    go : (a b c : Bool) → mantBits h ≤ 16 → cond a (mantBits h) (cond b (cond c (mantBits h - 1) (mantBits h - 2)) (cond c (mantBits h - 1) (mantBits h - 2) + cond c (mantBits h - 1) (mantBits h))) ≤ 32
+    go true b c m = omega arith
+    go false true true m = omega arith
+    go false true false m = omega arith
+    go false false true m = omega arith
+    go false false false m = omega arith
+
+six-most : (h : ℕ) (x : List Float) (a g : ℕ) → sixBits h x a g ≤ 256
+unfolding sixBits
+six-most h x a g = le-trans (sum-run-le (componentBits h g x) 32 a 6 (λ k. le-trans (le-of-eq (component-is h g x k)) (scalar-most h g (getD x k nan)))) (omega arith)
+
+pub bin-most : (h : ℕ) (x : List Float) (a g : ℕ) → binBits h x a g ≤ 256
+unfolding binBits
+bin-most h x a g = go (eqb h 0) (leb h 7)
+  where
+    go : (s t : Bool) → cond s 0 (cond t (vqBits h) (sixBits h x a g)) ≤ 256
+    go true t = omega arith
+    go false true = let v = vq-most h in omega arith
+    go false false = six-most h x a g
+
+pub costs-most : (h : ℕ) (x : List Float) (a : ℕ) (c : Costs) → c ≡ costsOf h x a → (c .one ≤ 256) × (c .two ≤ 256) × (c .four ≤ 256)
+unfolding costsOf
+costs-most h x a c e =
+    subst (λ (z : Costs). (z .one ≤ 256) × (z .two ≤ 256) × (z .four ≤ 256)) (sym e) (six-most h x a 1, go (leb 8 h && leb h 16) (six-most h x a 2), go (leb 8 h && leb h 16) (six-most h x a 4))
+  where
+    go : (t : Bool) {n : ℕ} → n ≤ 256 → cond t n 0 ≤ 256
+    go true l = l
+    go false l = omega arith
+
+pub sum-bound : (f : ℕ → ℕ) (start end : ℕ) → end ≤ 256 → ((k : ℕ) → f k ≤ 256) → sumOver f start end ≤ 65536
+sum-bound f start end h b = le-trans (sum-at-most f 256 start end (λ k l. b k)) (omega arith)
+
+pub tally-bounded : (row : List ℕ) (x : List Float) (start end : ℕ) (t : Tally) → end ≤ 256 → t ≡ tallyOf row x start end → Bounded t
+unfolding tallyOf leastAt activeCount activeAt
+tally-bounded row x start end t h e = subst Bounded (sym e) (record {
+  bits0-is = sum-bound (leastAt 0 row x) start end h (λ k. bin-most (getD row k 0) x (6 * k) (cond (active 0 (getD row k 0)) (bestGain 0 row x k) 1));
+  bits1-is = sum-bound (leastAt 1 row x) start end h (λ k. bin-most (getD row k 0) x (6 * k) (cond (active 1 (getD row k 0)) (bestGain 1 row x k) 1));
+  bits2-is = sum-bound (leastAt 2 row x) start end h (λ k. bin-most (getD row k 0) x (6 * k) (cond (active 2 (getD row k 0)) (bestGain 2 row x k) 1));
+  bits3-is = sum-bound (leastAt 3 row x) start end h (λ k. bin-most (getD row k 0) x (6 * k) (cond (active 3 (getD row k 0)) (bestGain 3 row x k) 1));
+  active1-is = sum-bound (activeAt 1 row) start end h (λ k. at-most (active 1 (getD row k 0)));
+  active2-is = sum-bound (activeAt 2 row) start end h (λ k. at-most (active 2 (getD row k 0)));
+})
+  where
+    at-most : (t : Bool) → cond {A = ℕ} t 1 0 ≤ 256
+    at-most true = omega arith
+    at-most false = omega arith
+
+-- ---- the costs that are looked at
+bin-scalar : (h : ℕ) (x : List Float) (a g : ℕ) → 8 ≤ h → binBits h x a g ≡ sixBits h x a g
+unfolding binBits
+bin-scalar h x a g l = rw (ne-eqb h 0 (λ (e : h ≡ 0). omega arith), lt-leb h 7 l)
+
+module _ (mode h : ℕ) (x : List Float) (a : ℕ) where
+  agree : active mode h ≡ true → (g : ℕ) → allowedGain mode g ≡ true → costIn (costsOf h x a) g ≡ binBits h x a g
+  unfolding costIn costsOf
+  agree q g w =
+      let r = active-range mode h q in
+      three-gains mode g (λ (k : ℕ). costIn (costsOf h x a) k ≡ binBits h x a k) w (sym (bin-scalar h x a 1 (r .0))) (rw (le-leb 8 h (r .0), le-leb h 16 (r .1), bin-scalar h x a 2 (r .0))) (rw (le-leb 8 h (r .0), le-leb h 16 (r .1), bin-scalar h x a 4 (r .0)))
+
+  -- the coding's bits are the bin's
+  pub coded-is : (g : ℕ) → (active mode h ≡ true → allowedGain mode g ≡ true) → codedBits (codingOf mode h) h (costsOf h x a) g ≡ binBits h x a (cond (active mode h) g 1)
+  unfolding codingOf codedBits costsOf binBits
+  coded-is g w = go (eqb h 0) (leb h 7) (active mode h) refl
+    where
+      go : (s t u : Bool) → active mode h ≡ u
+          → codedBits (cond s Coding.Nothing (cond t Coding.Book (cond u Coding.Adaptive Coding.Fixed))) h (costsOf h x a) g ≡ cond s 0 (cond t (vqBits h) (sixBits h x a (cond u g 1)))
+      go true t u q = refl
+      go false true u q = refl
+      go false false true q = agree q g (w q) ∙ bin-scalar h x a g (active-range mode h q .0)
+      go false false false q = refl
+
+pub gain-is : (mode : ℕ) (row : List ℕ) (x : List Float) (k : ℕ) → active mode (getD row k 0) ≡ true → gainIn mode (costsOf (getD row k 0) x (6 * k)) ≡ bestGain mode row x k
+unfolding gainIn bestGain allowedGain
+gain-is mode row x k q = cheapest-same (costIn (costsOf (getD row k 0) x (6 * k))) (binBits (getD row k 0) x (6 * k)) 1 (otherGains mode) (λ i w. agree mode (getD row k 0) x (6 * k) q i w)
+
+gain-allowed : (mode : ℕ) (c : Costs) → allowedGain mode (gainIn mode c) ≡ true
+unfolding allowedGain gainIn
+gain-allowed mode c = cheapest-in (costIn c) 1 (otherGains mode)
+
+least-is : (mode : ℕ) (row : List ℕ) (x : List Float) (k : ℕ) → leastIn mode (getD row k 0) (costsOf (getD row k 0) x (6 * k)) ≡ leastAt mode row x k
+unfolding leastIn leastAt
+least-is mode row x k =
+    let h = getD row k 0 in
+    let c = costsOf h x (6 * k) in
+    coded-is mode h x (6 * k) (gainIn mode c) (λ q. gain-allowed mode c) ∙ ap (binBits h x (6 * k)) (go (active mode h) refl)
+  where
+    go : (t : Bool) → active mode (getD row k 0) ≡ t → cond t (gainIn mode (costsOf (getD row k 0) x (6 * k))) 1 ≡ cond t (bestGain mode row x k) 1
+    go true q = gain-is mode row x k q
+    go false q = refl
+
+-- ---- the tally
+pub tally-start : (row : List ℕ) (x : List Float) (start : ℕ) → _≡_ {A = Tally} (record { bits0 = 0; bits1 = 0; bits2 = 0; bits3 = 0; active1 = 0; active2 = 0 }) (tallyOf row x start start)
+unfolding tallyOf activeCount
+tally-start row x start =
+    sym (rw (sum-none (leastAt 0 row x) start start (le-refl start), sum-none (leastAt 1 row x) start start (le-refl start), sum-none (leastAt 2 row x) start start (le-refl start), sum-none (leastAt 3 row x) start start (le-refl start), sum-none (activeAt 1 row) start start (le-refl start), sum-none (activeAt 2 row) start start (le-refl start)))
+
+pub tally-turn : (row : List ℕ) (x : List Float) (start k : ℕ) (t r : Tally) (c : Costs) → start ≤ k → t ≡ tallyOf row x start k → c ≡ costsOf (getD row k 0) x (6 * k) → r ≡ withBin t (getD row k 0) c
+    → r ≡ tallyOf row x start (k + 1)
+unfolding tallyOf activeCount withBin activeAt
+tally-turn row x start k t r c h et ec er =
+    er ∙ ap (λ (z : Tally). withBin z (getD row k 0) c) et ∙ ap (withBin (tallyOf row x start k) (getD row k 0)) ec
+    ∙ rw (least-is 0 row x k, least-is 1 row x k, least-is 2 row x k, least-is 3 row x k, add-one k, sum-next (leastAt 0 row x) start k h, sum-next (leastAt 1 row x) start k h, sum-next (leastAt 2 row x) start k h, sum-next (leastAt 3 row x) start k h, sum-next (activeAt 1 row) start k h, sum-next (activeAt 2 row) start k h)
+
+pub tally-end : (row : List ℕ) (x : List Float) (start i end : ℕ) (t : Tally) → i ≤ end → end ≤ i → t ≡ tallyOf row x start i → t ≡ tallyOf row x start end
+tally-end row x start i end t a b q = q ∙ ap (tallyOf row x start) (le-antisymm a b)
+
+-- ---- the mode
+four-modes : (i : ℕ) (P : ℕ → Type 0) → member i (0 ∷ 1 ∷ 2 ∷ 3 ∷ []) ≡ true → P 0 → P 1 → P 2 → P 3 → P i
+four-modes i P h p0 p1 p2 p3 = one-of (eqb i 0) (eqb i 1) (eqb i 2 || (eqb i 3 || false)) h (at 0 p0) (at 1 p1) (λ q. one-of (eqb i 2) (eqb i 3) false q (at 2 p2) (at 3 p3) no)
+  where
+    at : (k : ℕ) → P k → eqb i k ≡ true → P i
+    at k p e = subst P (sym (eqb-true i k e)) p
+
+    no : false ≡ true → P i
+    no e = absurd (true≢false (sym e))
+
+payload-is : (row : List ℕ) (x : List Float) (start end i : ℕ) → member i (0 ∷ 1 ∷ 2 ∷ 3 ∷ []) ≡ true → payloadIn (tallyOf row x start end) i ≡ leastOf row x start end i
+unfolding payloadIn tallyOf leastOf gainWordBits wordBits sections activeCount activeAt active endbap
+payload-is row x start end i h =
+    four-modes i (λ (k : ℕ). payloadIn (tallyOf row x start end) k ≡ leastOf row x start end k) h (sym (add-zero (sumOver (leastAt 0 row x) start end))) refl refl refl
+
+pub mode-is : (row : List ℕ) (x : List Float) (start end : ℕ) (t : Tally) (m : ℕ) → t ≡ tallyOf row x start end → m ≡ modeIn t → m ≡ planMode row x start end
+unfolding modeIn planMode
+mode-is row x start end t m et em =
+    em ∙ ap modeIn et ∙ cheapest-same (payloadIn (tallyOf row x start end)) (leastOf row x start end) 0 (1 ∷ 2 ∷ 3 ∷ []) (λ i q. payload-is row x start end i q)
+
+pub plan-payload : (row : List ℕ) (x : List Float) (start end : ℕ) (t : Tally) (m p : ℕ) → t ≡ tallyOf row x start end → m ≡ planMode row x start end → p ≡ payloadIn t m → p ≡ planPayload row x start end
+unfolding planPayload planMode
+plan-payload row x start end t m p et em ep =
+    ep ∙ ap (payloadIn t) em ∙ ap (λ (z : Tally). payloadIn z (planMode row x start end)) et
+    ∙ payload-is row x start end (planMode row x start end) (cheapest-in (leastOf row x start end) 0 (1 ∷ 2 ∷ 3 ∷ []))
+
+-- ---- the gains
+-- l stands in the first places of g, and what was there before in the others
+pub record Filled (old now l : List ℕ) (n : ℕ) : Type 0 where
+  pub count : n ≡ length l
+  pub same : length now ≡ length old
+  pub is : now ≡ l ++ drop n old
+
+pub filled-next : (old now l : List ℕ) (n g : ℕ) → n < length old → Filled old now l n → Filled old (set now n g) (l ++ (g ∷ [])) (n + 1)
+filled-next old now l n g h f =
+    let c = f .count in
+    record {
+      count = sym (length-append l (g ∷ []) ∙ ap (λ (z : ℕ). z + 1) (sym c));
+      same = length-set now n g ∙ f .same;
+      is =
+          ap (λ (z : List ℕ). set z n g) (f .is ∙ ap (λ (z : List ℕ). l ++ z) (drop-cons old n 0 h))
+          ∙ set-at l (getD old n 0) (drop (suc n) old) g n (sym c)
+          ∙ sym (append-assoc l (g ∷ []) (drop (n + 1) old) ∙ ap (λ (z : ℕ). l ++ (g ∷ drop z old)) (add-one n));
+    }
+
+module _ (mode : ℕ) (row : List ℕ) (x : List Float) (start k : ℕ) (old now : List ℕ) (n : ℕ) (f : Filled old now (gainsOver mode row x start k) n) (low : start ≤ k) where
+  pub filled-room : n ≤ k
+  unfolding activeCount activeAt
+  filled-room =
+      let c = f .count in
+      let l = gains-length mode row x start k in
+      let b = sum-at-most (activeAt mode row) 1 start k (λ j h. at-most (active mode (getD row j 0))) in
+      omega arith
+    where
+      at-most : (t : Bool) → cond {A = ℕ} t 1 0 ≤ 1
+      at-most true = omega arith
+      at-most false = omega arith
+
+  pub filled-active : (t : Bool) (c : Costs) (g : ℕ) → n < length old → t ≡ active mode (getD row k 0) → t ≡ true → c ≡ costsOf (getD row k 0) x (6 * k) → g ≡ gainIn mode c
+      → Filled old (set now n g) (gainsOver mode row x start (k + 1)) (n + 1)
+  filled-active t c g h et tt′ ec eg =
+      let a : active mode (getD row k 0) ≡ true = sym et ∙ tt′ in
+      let e : g ≡ bestGain mode row x k = eg ∙ ap (gainIn mode) ec ∙ gain-is mode row x k a in
+      let s : gainsOver mode row x start (k + 1) ≡ gainsOver mode row x start k ++ (g ∷ []) =
+      ap (gainsOver mode row x start) (add-one k) ∙ gains-step mode row x start k low a ∙ ap (λ (z : ℕ). gainsOver mode row x start k ++ (z ∷ [])) (sym e) in
+      subst (λ (l : List ℕ). Filled old (set now n g) l (n + 1)) (sym s) (filled-next old now (gainsOver mode row x start k) n g h f)
+
+  pub filled-fixed : (t : Bool) → t ≡ active mode (getD row k 0) → t ≡ false → Filled old now (gainsOver mode row x start (k + 1)) n
+  filled-fixed t et tf =
+      let s : gainsOver mode row x start (k + 1) ≡ gainsOver mode row x start k = ap (gainsOver mode row x start) (add-one k) ∙ gains-stay mode row x start k low (sym et ∙ tf) in
+      subst (λ (l : List ℕ). Filled old now l n) (sym s) f
+
+pub filled-start : (mode : ℕ) (row : List ℕ) (x : List Float) (start : ℕ) (old : List ℕ) → Filled old old (gainsOver mode row x start start) 0
+filled-start mode row x start old =
+    let e = gains-none mode row x start start (le-refl start) in
+    subst (λ (l : List ℕ). Filled old old l 0) (sym e) (record { count = refl; same = refl; is = refl })
+
+pub filled-end : (mode : ℕ) (row : List ℕ) (x : List Float) (start k end : ℕ) (old now : List ℕ) (n : ℕ) → k ≤ end → end ≤ k → Filled old now (gainsOver mode row x start k) n
+    → (n ≡ length (gainsOver mode row x start end)) × (now ≡ gainsOver mode row x start end ++ drop (length (gainsOver mode row x start end)) old)
+filled-end mode row x start k end old now n a b f =
+    let e = ap (gainsOver mode row x start) (le-antisymm a b) in
+    let c = f .count ∙ ap length e in
+    (c, f .is ∙ ap (λ (l : List ℕ). l ++ drop n old) e ∙ ap (λ (z : ℕ). gainsOver mode row x start end ++ drop z old) c)
+
+-- ---- cause 5 at a bin
+pub outside-none : (row : List ℕ) (x : List Float) (k : ℕ) → getD row k 0 ≡ 0 → false ≡ outsideAt row x k
+unfolding outsideAt
+outside-none row x k e = sym (ap (λ (z : ℕ). not (eqb z 0) && someOver (tooLargeAt x) (6 * k) (6 * k + 6)) e)
+
+pub outside-some : (row : List ℕ) (x : List Float) (k : ℕ) (r : Bool) → (getD row k 0 ≡ 0 → ⊥) → r ≡ someOver (tooLargeAt x) (6 * k) (6 * k + 6) → r ≡ outsideAt row x k
+unfolding outsideAt
+outside-some row x k r n e = e ∙ sym (ap (λ (t : Bool). not t && someOver (tooLargeAt x) (6 * k) (6 * k + 6)) (ne-eqb (getD row k 0) 0 n))

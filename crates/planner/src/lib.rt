@@ -1,0 +1,492 @@
+// The plan of a channel: which mode and which gains take the fewest bits.
+ghost use mathlib.Core.Path.{_≡_};
+ghost use mathlib.Core.Bool.{true, false, cond};
+ghost use mathlib.Core.List.{_++_};
+ghost use Prim.Native.Nat.{_+_, _*_, _<_, _≤_};
+ghost use lib.ListN.{length, drop, getD};
+ghost use Rattle.gains.specs.Gains.{codingOf};
+ghost use Rattle.planner.specs.Bins.{sumOver, someOver};
+ghost use Rattle.planner.specs.Choice.{cheaper, gainsOver, activeCount, chosenAt};
+ghost use Rattle.planner.specs.Fit.{wrongGain, planFits};
+ghost use Rattle.planner.specs.Work.{sizeOf, limitsOf, bitsBySize, costsOf, costIn, gainIn, codedBits, leastIn, tallyOf, withBin, payloadIn, modeIn, Bounded, Within};
+ghost use Rattle.planner.specs.Planning.{noGains, unknownAt, tooLargeAt, outsideAt, refusalOf, planOf, planned};
+use gains::Coding;
+
+// The gains are Gk in bin order, count of them, then zeros. The total is 2 plus the payload.
+pub struct Plan {
+    pub mode: u8,
+    pub gains: [u8; 256],
+    pub count: usize,
+    pub payload: u32,
+}
+
+// 0 and the plan, or the number of the refusal and zeros.
+pub struct Planned {
+    pub refusal: u8,
+    pub plan: Plan,
+}
+
+// The bits of a bin's six codes at each gain.
+pub struct Costs {
+    pub one: u32,
+    pub two: u32,
+    pub four: u32,
+}
+
+// The sizes from which on a component takes the tag and a large code.
+pub struct Limits {
+    pub two: f32,
+    pub four: f32,
+}
+
+// The bins' bits in each mode, and the active bins in mode 1 and in modes 2 and 3.
+pub struct Tally {
+    pub bits0: u32,
+    pub bits1: u32,
+    pub bits2: u32,
+    pub bits3: u32,
+    pub active1: u32,
+    pub active2: u32,
+}
+
+fn limits_for(hebap: u8) -> Limits
+    requires { ⌜ (8 ≤ hebap) × (hebap ≤ 16) ⌝ }
+    ensures { λ r. ⌜ r ≡ limitsOf hebap ⌝ }
+{
+    match hebap {
+        8 => Limits {
+            two: 0.375,
+            four: 0.125,
+        },
+        9 => Limits {
+            two: 0.4375,
+            four: 0.1875,
+        },
+        10 => Limits {
+            two: 0.46875,
+            four: 0.21875,
+        },
+        11 => Limits {
+            two: 0.484375,
+            four: 0.234375,
+        },
+        12 => Limits {
+            two: 0.4921875,
+            four: 0.2421875,
+        },
+        13 => Limits {
+            two: 0.49609375,
+            four: 0.24609375,
+        },
+        14 => Limits {
+            two: 0.498046875,
+            four: 0.248046875,
+        },
+        15 => Limits {
+            two: 0.4990234375,
+            four: 0.2490234375,
+        },
+        _ => Limits {
+            two: 0.49951171875,
+            four: 0.24951171875,
+        },
+    }
+}
+
+fn size(x: f32) -> f32
+    ensures { λ r. ⌜ r ≡ sizeOf x ⌝ }
+{
+    if x < 0.0 { -x } else { x }
+}
+
+fn bits_by_size(s: f32, limit: f32, small: u32, large: u32) -> u32
+    requires { ⌜ (small ≤ 16) × (large ≤ 16) ⌝ }
+    ensures { λ r. ⌜ r ≡ bitsBySize s limit small large ⌝ }
+{
+    if s >= limit { small + large } else { small }
+}
+
+// The bits of six components at each gain, each looked at once.
+fn gain_costs(hebap: u8, x: &[f32], a: usize) -> Costs
+    requires { ⌜ (8 ≤ hebap) × (hebap ≤ 16) ⌝ }
+    requires { ⌜ a + 6 ≤ length (now x) ⌝ }
+    ensures { λ r. ⌜ r ≡ costsOf hebap (now (x .entry)) a ⌝ }
+{
+    let m = levels::mant(hebap);
+    let l = limits_for(hebap);
+    let mut two: u32 = 0;
+    let mut four: u32 = 0;
+    let mut i = a;
+    let end = a + 6;
+    while i < end {
+        let s = size(x[i]);
+        two += bits_by_size(s, l.two, m - 1, m - 1);
+        four += bits_by_size(s, l.four, m - 2, m);
+        i += 1;
+    }
+    Costs {
+        one: 6 * m,
+        two,
+        four,
+    }
+}
+
+fn bin_costs(hebap: u8, x: &[f32], a: usize) -> Costs
+    requires { ⌜ a + 6 ≤ length (now x) ⌝ }
+    ensures { λ r. ⌜ r ≡ costsOf hebap (now (x .entry)) a ⌝ }
+{
+    match hebap {
+        8..=16 => gain_costs(hebap, x, a),
+        _ => Costs {
+            one: 6 * levels::mant(hebap),
+            two: 0,
+            four: 0,
+        },
+    }
+}
+
+fn cost_at(c: Costs, gain: u8) -> u32
+    ensures { λ r. ⌜ r ≡ costIn c gain ⌝ }
+{
+    match gain {
+        1 => c.one,
+        2 => c.two,
+        _ => c.four,
+    }
+}
+
+fn cheaper_gain(c: Costs, gain: u8, next: u8) -> u8
+    ensures { λ r. ⌜ r ≡ cheaper (costIn c) gain next ⌝ }
+{
+    if cost_at(c, next) < cost_at(c, gain) {
+        next
+    } else {
+        gain
+    }
+}
+
+// The cheapest gain that the mode allows, the lower one of equals.
+fn best_gain(mode: u8, c: Costs) -> u8
+    ensures { λ r. ⌜ r ≡ gainIn mode c ⌝ }
+{
+    match mode {
+        1 => cheaper_gain(c, 1, 2),
+        2 => cheaper_gain(c, 1, 4),
+        3 => cheaper_gain(c, cheaper_gain(c, 1, 2), 4),
+        _ => 1,
+    }
+}
+
+// The bits of a bin by its coding, at the gain where it has one of its own.
+fn coded_bits(mode: u8, hebap: u8, c: Costs, gain: u8) -> u32
+    ensures { λ r. ⌜ r ≡ codedBits (codingOf mode hebap) hebap c gain ⌝ }
+{
+    match gains::coding_of(mode, hebap) {
+        Coding::Nothing => 0,
+        Coding::Book => tables::vq_bits(hebap) as u32,
+        Coding::Fixed => c.one,
+        Coding::Adaptive => cost_at(c, gain),
+    }
+}
+
+fn least_bits(mode: u8, hebap: u8, c: Costs) -> u32
+    ensures { λ r. ⌜ r ≡ leastIn mode hebap c ⌝ }
+{
+    coded_bits(mode, hebap, c, best_gain(mode, c))
+}
+
+fn one_if(b: bool) -> u32
+    ensures { λ r. ⌜ r ≡ cond b 1 0 ⌝ }
+{
+    if b { 1 } else { 0 }
+}
+
+fn add_bin(t: Tally, hebap: u8, c: Costs) -> Tally
+    requires { ⌜ Bounded t ⌝ }
+    requires { ⌜ (c .one ≤ 256) × (c .two ≤ 256) × (c .four ≤ 256) ⌝ }
+    ensures { λ r. ⌜ r ≡ withBin t hebap c ⌝ }
+{
+    Tally {
+        bits0: t.bits0 + least_bits(0, hebap, c),
+        bits1: t.bits1 + least_bits(1, hebap, c),
+        bits2: t.bits2 + least_bits(2, hebap, c),
+        bits3: t.bits3 + least_bits(3, hebap, c),
+        active1: t.active1 + one_if(gains::is_active(1, hebap)),
+        active2: t.active2 + one_if(gains::is_active(2, hebap)),
+    }
+}
+
+fn tally_bins(row: &[u8], start: usize, end: usize, x: &[f32]) -> Tally
+    requires { ⌜ Within (now row) start end (now x) ⌝ }
+    ensures { λ r. ⌜ r ≡ tallyOf (now (row .entry)) (now (x .entry)) start end ⌝ }
+{
+    let mut t = Tally {
+        bits0: 0,
+        bits1: 0,
+        bits2: 0,
+        bits3: 0,
+        active1: 0,
+        active2: 0,
+    };
+    let mut bin = start;
+    while bin < end {
+        let hebap = row[bin];
+        t = add_bin(t, hebap, bin_costs(hebap, x, 6 * bin));
+        bin += 1;
+    }
+    t
+}
+
+fn payload_in(t: Tally, mode: u8) -> u32
+    requires { ⌜ Bounded t ⌝ }
+    ensures { λ r. ⌜ r ≡ payloadIn t mode ⌝ }
+{
+    match mode {
+        0 => t.bits0,
+        1 => t.bits1 + gains::gain_word_bits(1, t.active1),
+        2 => t.bits2 + gains::gain_word_bits(2, t.active2),
+        _ => t.bits3 + gains::gain_word_bits(3, t.active2),
+    }
+}
+
+fn cheaper_mode(t: Tally, mode: u8, next: u8) -> u8
+    requires { ⌜ Bounded t ⌝ }
+    ensures { λ r. ⌜ r ≡ cheaper (payloadIn t) mode next ⌝ }
+{
+    if payload_in(t, next) < payload_in(t, mode) {
+        next
+    } else {
+        mode
+    }
+}
+
+// The mode of least payload, the lowest of equals.
+fn best_mode(t: Tally) -> u8
+    requires { ⌜ Bounded t ⌝ }
+    ensures { λ r. ⌜ r ≡ modeIn t ⌝ }
+{
+    cheaper_mode(t, cheaper_mode(t, cheaper_mode(t, 0, 1), 2), 3)
+}
+
+// The gains of the active bins go to the first places; how many is returned.
+fn fill_gains(row: &[u8], start: usize, end: usize, x: &[f32], mode: u8, gains: &mut [u8]) -> usize
+    requires { ⌜ Within (now row) start end (now x) ⌝ }
+    requires { ⌜ length (now gains) ≡ 256 ⌝ }
+    ensures { λ r. ⌜ r ≡ length (gainsOver mode (now (row .entry)) (now (x .entry)) start end) ⌝ }
+    ensures { λ r. ⌜ now (gains .exit) ≡ gainsOver mode (now (row .entry)) (now (x .entry)) start end ++ drop (length (gainsOver mode (now (row .entry)) (now (x .entry)) start end)) (now (gains .entry)) ⌝ }
+{
+    let mut n: usize = 0;
+    let mut bin = start;
+    while bin < end {
+        let hebap = row[bin];
+        if gains::is_active(mode, hebap) {
+            gains[n] = best_gain(mode, gain_costs(hebap, x, 6 * bin));
+            n += 1;
+        }
+        bin += 1;
+    }
+    n
+}
+
+fn no_gains() -> [u8; 256]
+    ensures { λ r. ⌜ r ≡ noGains ⌝ }
+{
+    [0u8; 256]
+}
+
+fn plan_bins(row: &[u8], start: usize, end: usize, x: &[f32]) -> Plan
+    requires { ⌜ Within (now row) start end (now x) ⌝ }
+    ensures { λ r. ⌜ r ≡ planOf (now (row .entry)) (now (x .entry)) start end ⌝ }
+{
+    let t = tally_bins(row, start, end, x);
+    let mode = best_mode(t);
+    let payload = payload_in(t, mode);
+    let mut gains = no_gains();
+    let count = fill_gains(row, start, end, x, mode, &mut gains);
+    Plan {
+        mode,
+        gains,
+        count,
+        payload,
+    }
+}
+
+fn refuse(n: u8) -> Planned
+    ensures { λ r. ⌜ r ≡ refusalOf n ⌝ }
+{
+    let gains = no_gains();
+    Planned {
+        refusal: n,
+        plan: Plan {
+            mode: 0,
+            gains,
+            count: 0,
+            payload: 0,
+        },
+    }
+}
+
+fn bin_outside(x: &[f32], a: usize) -> bool
+    requires { ⌜ a + 6 ≤ length (now x) ⌝ }
+    ensures { λ r. ⌜ r ≡ someOver (tooLargeAt (now (x .entry))) a (a + 6) ⌝ }
+{
+    let mut i = a;
+    let end = a + 6;
+    while i < end {
+        if !levels::in_range(x[i]) {
+            return true;
+        }
+        i += 1;
+    }
+    false
+}
+
+fn any_unknown(row: &[u8], start: usize, end: usize) -> bool
+    requires { ⌜ (start ≤ end) × (end ≤ length (now row)) ⌝ }
+    ensures { λ r. ⌜ r ≡ someOver (unknownAt (now (row .entry))) start end ⌝ }
+{
+    let mut bin = start;
+    while bin < end {
+        if row[bin] > 19 {
+            return true;
+        }
+        bin += 1;
+    }
+    false
+}
+
+fn outside_at(row: &[u8], x: &[f32], bin: usize) -> bool
+    requires { ⌜ (bin < 256) × (bin < length (now row)) × (6 * bin + 6 ≤ length (now x)) ⌝ }
+    ensures { λ r. ⌜ r ≡ outsideAt (now (row .entry)) (now (x .entry)) bin ⌝ }
+{
+    if row[bin] == 0 {
+        return false;
+    }
+    bin_outside(x, 6 * bin)
+}
+
+fn any_outside(row: &[u8], start: usize, end: usize, x: &[f32]) -> bool
+    requires { ⌜ Within (now row) start end (now x) ⌝ }
+    ensures { λ r. ⌜ r ≡ someOver (outsideAt (now (row .entry)) (now (x .entry))) start end ⌝ }
+{
+    let mut bin = start;
+    while bin < end {
+        if outside_at(row, x, bin) {
+            return true;
+        }
+        bin += 1;
+    }
+    false
+}
+
+// The plan of the bins start to end - 1, where hebap is the row and x the vectors. Refuses with 1 to 5.
+pub fn plan_aht_channel(hebap: &[u8], start: usize, end: usize, x: &[f32]) -> Planned
+    ensures { λ r. ⌜ r ≡ planned (now (hebap .entry)) start end (now (x .entry)) ⌝ }
+{
+    if end < start {
+        return refuse(1);
+    }
+    if 256 < end {
+        return refuse(2);
+    }
+    if hebap.len() < end {
+        return refuse(3);
+    }
+    if x.len() < 6 * end {
+        return refuse(3);
+    }
+    if any_unknown(hebap, start, end) {
+        return refuse(4);
+    }
+    if any_outside(hebap, start, end, x) {
+        return refuse(5);
+    }
+    let plan = plan_bins(hebap, start, end, x);
+    Planned { refusal: 0, plan }
+}
+
+fn any_wrong(mode: u8, gains: &[u8], count: usize) -> bool
+    requires { ⌜ count ≤ length (now gains) ⌝ }
+    ensures { λ r. ⌜ r ≡ someOver (wrongGain mode (now (gains .entry))) 0 count ⌝ }
+{
+    let mut i: usize = 0;
+    while i < count {
+        if !gains::is_allowed(mode, gains[i]) {
+            return true;
+        }
+        i += 1;
+    }
+    false
+}
+
+fn step_if(b: bool) -> usize
+    ensures { λ r. ⌜ r ≡ cond b 1 0 ⌝ }
+{
+    if b { 1 } else { 0 }
+}
+
+fn count_active(row: &[u8], start: usize, end: usize, mode: u8) -> usize
+    requires { ⌜ (start ≤ end) × (end ≤ 256) × (end ≤ length (now row)) ⌝ }
+    ensures { λ r. ⌜ r ≡ activeCount mode (now (row .entry)) start end ⌝ }
+{
+    let mut n: usize = 0;
+    let mut bin = start;
+    while bin < end {
+        n += step_if(gains::is_active(mode, row[bin]));
+        bin += 1;
+    }
+    n
+}
+
+fn chosen_gain(active: bool, gains: &[u8], n: usize) -> u8
+    requires { ⌜ (active ≡ true → n < length (now gains)) ⌝ }
+    ensures { λ r. ⌜ r ≡ cond active (getD (now (gains .entry)) n 0) 1 ⌝ }
+{
+    if active {
+        return gains[n];
+    }
+    1
+}
+
+// The bits of the bins at the gains that were chosen.
+fn chosen_bits(row: &[u8], start: usize, end: usize, x: &[f32], mode: u8, gains: &[u8]) -> u32
+    requires { ⌜ Within (now row) start end (now x) ⌝ }
+    requires { ⌜ activeCount mode (now row) start end ≤ length (now gains) ⌝ }
+    requires { ⌜ someOver (wrongGain mode (now gains)) 0 (activeCount mode (now row) start end) ≡ false ⌝ }
+    ensures { λ r. ⌜ r ≡ sumOver (chosenAt mode (now (gains .entry)) (now (row .entry)) (now (x .entry)) start) start end ⌝ }
+{
+    let mut n: usize = 0;
+    let mut bits: u32 = 0;
+    let mut bin = start;
+    while bin < end {
+        let hebap = row[bin];
+        let active = gains::is_active(mode, hebap);
+        let gain = chosen_gain(active, gains, n);
+        bits += coded_bits(mode, hebap, bin_costs(hebap, x, 6 * bin), gain);
+        n += step_if(active);
+        bin += 1;
+    }
+    bits
+}
+
+// Whether the plan fits, best or not; none of causes 1 to 3 may hold.
+pub fn plan_fits(p: Plan, hebap: &[u8], start: usize, end: usize, x: &[f32]) -> bool
+    requires { ⌜ Within (now hebap) start end (now x) ⌝ }
+    ensures { λ r. ⌜ r ≡ planFits p (now (hebap .entry)) start end (now (x .entry)) ⌝ }
+{
+    let mode = p.mode;
+    let count = p.count;
+    let gains = p.gains;
+    if 3 < mode {
+        return false;
+    }
+    let n = count_active(hebap, start, end, mode);
+    if count != n {
+        return false;
+    }
+    if any_wrong(mode, &gains, count) {
+        return false;
+    }
+    p.payload
+        == chosen_bits(hebap, start, end, x, mode, &gains) + gains::gain_word_bits(mode, n as u32)
+}

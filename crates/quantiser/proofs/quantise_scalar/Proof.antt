@@ -1,0 +1,43 @@
+-- `quantiser::quantise_scalar` meets its contract. Assumes nothing.
+use mathlib.Core.Path.{_∙_, sym}
+use borrow.Author.Needs.{needs}
+use borrow.Author.Tests.{not-true, not-false}
+use Rattle.levels.specs.Component.{tooLarge}
+use Rattle.quantiser.specs.Quantise.{quantised}
+use Rattle.quantiser.proofs.Ints.{allowed-range}
+use Rattle.quantiser.proofs.quantise_scalar.Statement.{statement}
+use Rattle.quantiser.proofs.quantise_scalar.Tie as tie
+
+allows-requires : tie.Need-allows-requires
+allows-requires c κs = search needs
+
+in-range-requires : tie.Need-in-range-requires
+in-range-requires c κs = search needs
+
+pick-requires : tie.Need-pick-requires
+pick-requires c κs =
+    let d = c .before .before .before in
+    allowed-range (d .before .args .hebap) (d .before .args .gk) (sym (d .allows .ensures) ∙ c .before .before .if1 .taken)
+
+returns : tie.Need-returns
+unfolding quantised
+returns c =
+    let d = c .before .before .before .before in
+    let r = c .before .before .in-range in
+    rw (c .pick .ensures, sym (d .allows .ensures) ∙ c .before .before .before .if1 .taken, not-true (tooLarge (d .before .args .x)) (sym (r .ensures) ∙ c .before .if2 .taken))
+
+returns-2 : tie.Need-returns-2
+unfolding quantised
+returns-2 c =
+    let d = c .before .before .before in
+    let r = c .before .in-range in
+    rw (sym (d .allows .ensures) ∙ c .before .before .if1 .taken, not-false (tooLarge (d .before .args .x)) (sym (r .ensures) ∙ c .if2 .left))
+
+returns-3 : tie.Need-returns-3
+unfolding quantised
+returns-3 c = rw (sym (c .before .allows .ensures) ∙ c .if1 .left)
+
+pub quantise-scalar-spec : {M : Type 1} → statement M
+quantise-scalar-spec =
+    tie.close
+    (tie.spec allows-requires in-range-requires pick-requires returns returns-2 returns-3)

@@ -1,0 +1,26 @@
+-- `replay::float_of` meets its contract: bits up to those of the infinities are no NaN's. Assumes nothing.
+use Prim.Native.Nat.{ℕ, _%_, _≤_}
+use mathlib.Core.Path.{_≡_, sym, subst, _∙_}
+use mathlib.Core.Bool.{Bool, false, not}
+use lib.Dec.{T}
+use lib.Ieee.{binary32, nanBits}
+use lib.Ieee.Bits.{nanBits-above}
+use borrow.Author.Tests.{le-ltb}
+use borrow.Author.Needs.{needs}
+use Rattle.replay.proofs.float_of.Statement.{statement}
+use Rattle.replay.proofs.float_of.Tie as tie
+
+is-number : (n : ℕ) → n % 2147483648 ≤ 2139095040 → T (not (nanBits binary32 n))
+is-number n h = subst (λ (b : Bool). T (not b)) (sym (nanBits-above binary32 n ∙ le-ltb _ _ h)) tt
+
+returns : tie.Need-returns
+returns c = tt
+
+float-from-bits-result : tie.Need-float-from-bits-result
+float-from-bits-result c = is-number (c .before .args .bits) (c .if1 .left)
+
+returns-2 : tie.Need-returns-2
+returns-2 c = tt
+
+pub float-of-spec : {M : Type 1} → statement M
+float-of-spec = tie.close (tie.spec returns float-from-bits-result returns-2)

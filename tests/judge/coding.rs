@@ -1,0 +1,170 @@
+//! Books, quantiser and planner.
+use crate::eac3::{aht, ahtenc};
+use crate::ours;
+use crate::random::Random;
+use crate::signals::{aimed, allowed, bin_of, book_size, cause, channel, code_of, component, nudged, outside, vectors};
+use crate::Tally;
+
+pub fn run(seed: u64, all: &mut Tally) {
+    vq_lookup(&mut Random::new(seed + 10), all);
+    vq_search(&mut Random::new(seed + 11), all);
+    quantise_scalar(&mut Random::new(seed + 12), all);
+    quantise_bin(&mut Random::new(seed + 13), all);
+    plan(&mut Random::new(seed + 14), all);
+}
+
+fn vq_lookup(random: &mut Random, all: &mut Tally) {
+    let mut t = Tally::of("vq_lookup");
+    for hebap in 0..=255u8 {
+        for i in (0..1100).chain((0..20).map(|_| random.next() as usize)) {
+            let mut out = [7.0f32; 6];
+            ours::vq_lookup(hebap, i, &mut out);
+            let want = aht::vq_lookup(hebap, i);
+            t.case(out.map(f32::to_bits) == want.map(f32::to_bits), || format!("{hebap} {i}: {out:?}, not {want:?}"));
+        }
+    }
+    t.close(all);
+}
+
+fn vq_search(random: &mut Random, all: &mut Tally) {
+    let mut t = Tally::of("vq_search");
+    let mut one = |hebap: u8, x: &[f32; 6]| {
+        let mut index = 99_999;
+        let refusal = ours::vq_search(hebap, x, &mut index);
+        let want = if book_size(hebap) > 0 && x.iter().any(|&v| outside(v)) { (5, 99_999) } else { (0, ahtenc::vq_search(hebap, x)) };
+        t.case((refusal, index) == want, || format!("{hebap} {x:?}: {refusal} {index}, not {want:?}"));
+    };
+    // near and exact ties, from the paper on traps
+    one(1, &[-3582.0, -5096.0, -3448.0, 4629.0, -3975.0, -1091.0].map(|v: f32| v / 32768.0));
+    one(1, &[-2535.0, 1492.0, -3722.0, -7072.0, -2163.0, -884.0].map(|v: f32| v / 32768.0));
+    for hebap in 0..=255u8 {
+        for bad in [f32::NAN, f32::INFINITY, f32::NEG_INFINITY, nudged(1024.0, 1), -nudged(1024.0, 1), 1024.0, -1024.0] {
+            for j in 0..6 {
+                let mut x = [0.25f32; 6];
+                x[j] = bad;
+                one(hebap, &x);
+            }
+        }
+    }
+    for _ in 0..60_000 {
+        let hebap = random.below(9) as u8;
+        let size = book_size(hebap);
+        let x: [f32; 6] = if size > 0 && random.below(2) == 0 {
+            // half way between two vectors, a few steps off: distances that nearly meet
+            let (a, b) = (aht::vq_lookup(hebap, random.below(size)), aht::vq_lookup(hebap, random.below(size)));
+            core::array::from_fn(|j| nudged((a[j] + b[j]) / 2.0, random.below(5) as i32 - 2))
+        } else {
+            core::array::from_fn(|_| component(random))
+        };
+        one(hebap, &x);
+    }
+    t.close(all);
+}
+
+fn quantise_scalar(random: &mut Random, all: &mut Tally) {
+    let mut t = Tally::of("quantise_scalar");
+    let mut one = |hebap: u8, gk: u8, x: f32| {
+        let (mut large, mut code, mut value) = (9u8, 0xdead_beef, 7.5f32);
+        let refusal = ours::quantise_scalar(hebap, gk, x, &mut large, &mut code, &mut value);
+        let want = if !allowed(hebap, gk) {
+            (11, 9, 0xdead_beef, 7.5)
+        } else if outside(x) {
+            (5, 9, 0xdead_beef, 7.5)
+        } else {
+            let (large, code, _, y) = code_of(hebap, gk, x);
+            (0, large, code, y)
+        };
+        t.case((refusal, large, code, value.to_bits()) == (want.0, want.1, want.2, want.3.to_bits()), || {
+            format!("{hebap} {gk} {x:e} ({:#x}): {refusal} {large} {code} {value}, not {want:?}", x.to_bits())
+        });
+    };
+    for hebap in 0..=255 {
+        for gk in 0..=255 {
+            one(hebap, gk, 0.3);
+            one(hebap, gk, f32::NAN);
+        }
+    }
+    for hebap in 8..=19 {
+        for gk in [1, 2, 4] {
+            for x in [0.0, -0.0, 1024.0, -1024.0, nudged(1024.0, 1), nudged(-1024.0, -1), f32::INFINITY, f32::NEG_INFINITY, f32::MIN_POSITIVE, f32::from_bits(1)] {
+                one(hebap, gk, x);
+            }
+            if !allowed(hebap, gk) {
+                continue;
+            }
+            for _ in 0..25_000 {
+                let x = component(random);
+                one(hebap, gk, x);
+                let x = aimed(random, hebap, gk);
+                one(hebap, gk, x);
+            }
+        }
+    }
+    t.close(all);
+}
+
+fn quantise_bin(random: &mut Random, all: &mut Tally) {
+    let mut t = Tally::of("quantise_bin");
+    for _ in 0..100_000 {
+        let hebap = 7 + random.below(14) as u8;
+        let gk = random.pick(&[1u8, 2, 4, 4, 2, 3]);
+        let mut x: [f32; 6] = core::array::from_fn(|_| if allowed(hebap, gk) && random.below(2) == 0 { aimed(random, hebap, gk) } else { component(random) });
+        if random.below(20) == 0 {
+            x[random.below(6)] = random.pick(&[f32::NAN, 1025.0, -2000.0, f32::INFINITY]);
+        }
+        let (mut values, mut bits, mut err) = ([7.5f32; 6], 4711u32, 7.5f32);
+        let refusal = ours::quantise_bin(hebap, gk, &x, &mut values, &mut bits, &mut err);
+        let want = if !allowed(hebap, gk) {
+            (11, [7.5; 6], 4711, 7.5)
+        } else if x.iter().any(|&v| outside(v)) {
+            (5, [7.5; 6], 4711, 7.5)
+        } else {
+            let (n, e, ys) = bin_of(hebap, gk, &x);
+            (0, ys, n, e)
+        };
+        let same = refusal == want.0 && values.map(f32::to_bits) == want.1.map(f32::to_bits) && bits == want.2 && err.to_bits() == want.3.to_bits();
+        t.case(same, || format!("{hebap} {gk} {x:?}: {refusal} {values:?} {bits} {err}, not {want:?}"));
+    }
+    t.close(all);
+}
+
+fn plan(random: &mut Random, all: &mut Tally) {
+    let mut t = Tally::of("plan_aht_channel");
+    for i in 0..110_000 {
+        let bins = match i % 8 {
+            0 => random.below(257),
+            1 => 256,
+            _ => random.below(24),
+        };
+        let (mut row, mut x) = channel(random, bins);
+        let (mut start, mut end) = (0, bins);
+        if random.below(3) == 0 {
+            start = random.below(bins + 2);
+            end = random.below(bins + 3);
+        }
+        match random.below(24) {
+            0 if bins > 0 => row[random.below(bins)] = 20 + random.below(236) as u8,
+            1 if bins > 0 => x[random.below(6 * bins)] = random.pick(&[f32::NAN, f32::INFINITY, nudged(1024.0, 1), -1e30, 1024.0]),
+            2 => x.truncate(random.below(6 * bins + 1)),
+            3 => row.truncate(random.below(bins + 1)),
+            4 => {
+                start = random.pick(&[0, 255, 256, 257, usize::MAX]);
+                end = random.pick(&[0, 255, 256, 257, usize::MAX]);
+            }
+            _ => {}
+        }
+        let mut ours_plan = ours::Plan::filled();
+        let refusal = ours::plan_aht_channel(&row, start, end, &x, &mut ours_plan);
+        let number = cause(&row, start, end, &x);
+        let mut want = ours::Plan::filled();
+        if number == 0 {
+            let p = ahtenc::plan_aht_channel(&row, start, end, &vectors(&x));
+            want = ours::Plan { mode: p.gaqmod, gains: [0; 256], count: p.gains.len(), payload: p.payload_bits };
+            for (g, &code) in want.gains.iter_mut().zip(&p.gains) {
+                *g = [1, 2, 4][code as usize];
+            }
+        }
+        t.case(refusal == number && ours_plan == want, || format!("{row:?} {start} {end} {x:?}: {refusal} {ours_plan:?}, not {number} {want:?}"));
+    }
+    t.close(all);
+}

@@ -1,0 +1,145 @@
+//! Components, channels and what the Rust makes of them: for the comparison and for the recorded answers.
+use crate::eac3::{aht, ahtenc};
+use crate::random::Random;
+
+pub fn book_size(hebap: u8) -> usize {
+    if (1..=7).contains(&hebap) { 1 << aht::VQ_BITS[hebap as usize] } else { 0 }
+}
+
+/// Document 01's cause 5.
+pub fn outside(x: f32) -> bool {
+    !(x.abs() <= 1024.0)
+}
+
+/// The f32 that lies n steps from x.
+pub fn nudged(x: f32, n: i32) -> f32 {
+    let mut key = x.to_bits() as i32;
+    if key < 0 {
+        key = i32::MIN - key;
+    }
+    key += n;
+    if key < 0 {
+        key = i32::MIN - key;
+    }
+    f32::from_bits(key as u32)
+}
+
+pub fn unit(random: &mut Random) -> f32 {
+    (random.next() >> 40) as f32 / (1u64 << 24) as f32
+}
+
+/// A component: mostly in and around -1 to 1, quiet ones, wide ones, ends of the domain, denormals and both zeros.
+pub fn component(random: &mut Random) -> f32 {
+    let sign = if random.below(2) == 0 { 1.0 } else { -1.0 };
+    sign * match random.below(16) {
+        0 => 0.0,
+        1 => f32::from_bits(random.below(1 << 23) as u32),
+        2 => 1024.0 * unit(random),
+        3 => nudged(1024.0, -(random.below(3) as i32)),
+        4..=6 => unit(random) / 64.0,
+        7 => (random.below(1 << 16) as f32) / 32768.0,
+        8 => f32::from_bits((random.next() as u32 % 0x4480_0000).max(1)),
+        _ => 1.2 * unit(random),
+    }
+}
+
+/// What the Rust's code is here: large or small, its bits, and how many bits it takes.
+pub fn code_of(hebap: u8, gk: u8, x: f32) -> (u8, u32, u32, f32) {
+    let (code, y) = ahtenc::quantise_scalar(hebap, gk, x);
+    let bits = code.first.0 + code.second.map_or(0, |(n, _)| n);
+    match code.second {
+        Some((_, v)) => {
+            assert_eq!(code.first.1, 1 << (code.first.0 - 1), "an escape begins with the tag");
+            (1, v, bits, y)
+        }
+        None => (u8::from(gk == 1), code.first.1, bits, y),
+    }
+}
+
+pub fn allowed(hebap: u8, gk: u8) -> bool {
+    (8..=19).contains(&hebap) && (gk == 1 || (hebap <= 16 && (gk == 2 || gk == 4)))
+}
+
+/// A component near a place where the code changes: half way between two levels, or where a code stops being small.
+pub fn aimed(random: &mut Random, hebap: u8, gk: u8) -> f32 {
+    let m = u32::from(aht::HEBAP_MANT_BITS[hebap as usize]);
+    let full = (1u32 << (m - 1)) as f32;
+    let n = random.below(1 << m) as f32 - full;
+    let x = match random.below(4) {
+        0 => (n + 0.5) / full,
+        1 => {
+            let b = if gk == 2 { m - 1 } else { m - 2 };
+            let edge = ((1u32 << b) - 1) as f32 / (2.0 * full);
+            if random.below(2) == 0 { edge } else { -edge }
+        }
+        2 => {
+            let (a, b) = (aht::gaq_remap(hebap, gk, n / full), aht::gaq_remap(hebap, gk, (n + 1.0) / full));
+            (a + b) / 2.0
+        }
+        _ => n / full,
+    };
+    nudged(x, random.below(7) as i32 - 3)
+}
+
+/// A row and its vectors: one kind of bin, or all kinds, quiet or loud, or aimed at the places where codes change.
+pub fn channel(random: &mut Random, bins: usize) -> (Vec<u8>, Vec<f32>) {
+    let kind = random.below(6);
+    let row: Vec<u8> = (0..bins)
+        .map(|_| match kind {
+            0 => 1 + random.below(7) as u8,
+            1 => 8 + random.below(4) as u8,
+            2 => 8 + random.below(9) as u8,
+            3 => 17 + random.below(3) as u8,
+            _ => random.below(20) as u8,
+        })
+        .collect();
+    let quiet = random.below(3);
+    let x = row
+        .iter()
+        .flat_map(|&h| {
+            let v: [f32; 6] = core::array::from_fn(|_| match quiet {
+                0 => component(random),
+                1 if (8..=16).contains(&h) => {
+                    let gk = random.pick(&[2, 4]);
+                    aimed(random, h, gk)
+                }
+                _ => (unit(random) - 0.5) / [1.0, 2.0, 4.0, 16.0][random.below(4)],
+            });
+            v
+        })
+        .collect();
+    (row, x)
+}
+
+/// Cause 1 to 5, the lowest that holds.
+pub fn cause(row: &[u8], start: usize, end: usize, x: &[f32]) -> u8 {
+    if start > end {
+        1
+    } else if end > 256 {
+        2
+    } else if row.len() < end || x.len() < 6 * end {
+        3
+    } else if row[start..end].iter().any(|&h| h > 19) {
+        4
+    } else if (start..end).any(|b| row[b] != 0 && x[6 * b..6 * b + 6].iter().any(|&v| outside(v))) {
+        5
+    } else {
+        0
+    }
+}
+
+pub fn vectors(x: &[f32]) -> Vec<[f32; 6]> {
+    x.chunks_exact(6).map(|c| c.try_into().unwrap()).collect()
+}
+
+/// quantise_bin of the Rust is private: its three lines over quantise_scalar, which is not.
+pub fn bin_of(hebap: u8, gk: u8, x: &[f32; 6]) -> (u32, f32, [f32; 6]) {
+    let (mut bits, mut err, mut values) = (0, 0.0f32, [0f32; 6]);
+    for (j, &xj) in x.iter().enumerate() {
+        let (_, _, b, y) = code_of(hebap, gk, xj);
+        bits += b;
+        err += (y - xj) * (y - xj);
+        values[j] = y;
+    }
+    (bits, err, values)
+}
