@@ -129,8 +129,8 @@ fn quantise_bin(random: &mut Random, all: &mut Tally) {
 }
 
 fn plan(random: &mut Random, all: &mut Tally) {
-    let mut t = Tally::of("plan_aht_channel");
-    for i in 0..110_000 {
+    let (mut plans, mut refusals) = (Tally::of("plan_aht_channel, planned"), Tally::of("plan_aht_channel, refused"));
+    for i in 0..170_000 {
         let bins = match i % 8 {
             0 => random.below(257),
             1 => 256,
@@ -164,7 +164,9 @@ fn plan(random: &mut Random, all: &mut Tally) {
                 *g = [1, 2, 4][code as usize];
             }
         }
+        let t = if number == 0 { &mut plans } else { &mut refusals };
         t.case(refusal == number && ours_plan == want, || format!("{row:?} {start} {end} {x:?}: {refusal} {ours_plan:?}, not {number} {want:?}"));
     }
-    t.close(all);
+    plans.close(all);
+    refusals.close(all);
 }

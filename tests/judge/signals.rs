@@ -73,7 +73,10 @@ pub fn aimed(random: &mut Random, hebap: u8, gk: u8) -> f32 {
             if random.below(2) == 0 { edge } else { -edge }
         }
         2 => {
-            let (a, b) = (aht::gaq_remap(hebap, gk, n / full), aht::gaq_remap(hebap, gk, (n + 1.0) / full));
+            // the large codes of Gk 2 have one bit less
+            let scale = if gk == 2 { full / 2.0 } else { full };
+            let n = random.below(2 * scale as usize) as f32 - scale;
+            let (a, b) = (aht::gaq_remap(hebap, gk, n / scale), aht::gaq_remap(hebap, gk, (n + 1.0) / scale));
             (a + b) / 2.0
         }
         _ => n / full,

@@ -1,11 +1,9 @@
 -- What a format shows of its values tells them apart: so two accepted fields are equal exactly when they show the same.
-use Prim.Native.Nat.{ℕ}
 use mathlib.Core.Path.{_≡_, refl, sym, ap, _∙_, subst}
 use mathlib.Core.List.{List, [], _∷_, map}
 use mathlib.Core.Bool.{Bool}
 use mathlib.Core.Logic.{_↔_}
-use native.Mathlib.Omega.{arith}
-use Rattle.bits.specs.Format.{Got, got, refused, Format, only, both, shown, each, each-Ok, shows}
+use Rattle.bits.specs.Format.{got, Format, only, both, shown, each, each-Ok, shows}
 use Rattle.bits.proofs.Lawful.{Lawful, taken, same-shown}
 
 abbrev pub Faithful : {A B : Type 0} → Format A → (A → B) → Type 0

@@ -3,14 +3,14 @@ use Prim.Native.Nat.{ℕ, zero, suc, _+_, _-_, _*_, _/_, _%_, _^_, _≤_, _<_}
 use mathlib.Core.Path.{_≡_, refl, sym, ap, _∙_, subst}
 use mathlib.Core.List.{List, [], _∷_, _++_, append-assoc}
 use mathlib.Core.Bool.{Bool, true, false}
-use native.Mathlib.Nat.{mul-add, mul-left-comm, mul-le-mul-right, mod-lt, lt-of-not-le, not-le-of-lt, le-mul-of-pos-right, lt-of-lt-of-le, min-le-left, le-of-lt, mod-eq-of-lt, pow-suc, add-comm, add-mul, mul-assoc, add-assoc, zero-add, suc-add, add-zero, mod-mod, div-one, mod-one, pow-zero}
+use native.Mathlib.Nat.{mul-add, mul-left-comm, mul-le-mul-right, mod-lt, lt-of-not-le, not-le-of-lt, le-mul-of-pos-right, lt-of-lt-of-le, min-le-left, le-of-lt, mod-eq-of-lt, pow-suc, add-comm, add-mul, mul-assoc, add-assoc, zero-add, suc-add, add-zero, mod-mod, mod-one}
 use native.Mathlib.Numerals.{add-one, one-add}
 use native.Mathlib.Omega.{arith}
 use lib.ListN.{length, take, drop, getD, set, take-append-drop, length-append, length-take, length-drop}
 use lib.Pow.{pow-add, mod-pow-add, shr-shr, field, mod-mod-pow, high, low, pow-pos, pow-mono, shr-lt}
 use lib.Arith.{digits-lt}
-use lib.Seq.{split-at, take-add, length-take-le, take-append-seam, drop-append-seam, drop-append-add, set-split, drop-at, take-at, drop-drop, drop-cons, drop-nil, drop-append-le, take-append-le}
-use lib.Dec.{leb, eqb, eqb→eq}
+use lib.Seq.{split-at, take-add, length-take-le, take-append-seam, drop-append-seam, drop-append-add, set-split, drop-at, take-at, drop-drop, drop-nil}
+use lib.Dec.{leb, eqb}
 use borrow.Author.Tests.{le-leb, lt-leb, leb-true, leb-false}
 use Rattle.bits.specs.Bits.{bitOf, digit, bitsN, numberOf, bitsOf, splice, byteWith, bytesOf, bytesWith, posOf, readU32, writeU32, written}
 use Rattle.bits.specs.declared.BitRead.{BitRead}

@@ -1,8 +1,8 @@
 -- How many bits a format writes of a value.
 use Prim.Native.Nat.{ℕ, zero, suc, _+_, _*_}
-use mathlib.Core.Path.{_≡_, refl, sym, ap, _∙_}
-use mathlib.Core.List.{List, [], _∷_, _++_}
-use mathlib.Core.Bool.{Bool, true, false, cond}
+use mathlib.Core.Path.{_≡_, refl, sym, _∙_}
+use mathlib.Core.List.{List, [], _∷_}
+use mathlib.Core.Bool.{Bool}
 use native.Mathlib.Nat.{zero-mul, suc-mul, add-comm}
 use lib.ListN.{length, length-append, replicate}
 use Rattle.bits.proofs.Laws.{length-bitsN}

@@ -2,9 +2,9 @@
 use Prim.Native.Nat.{ℕ, _+_, _<_, _^_}
 use mathlib.Core.Path.{_≡_}
 use mathlib.Core.List.{List, [], _∷_, _++_}
-use mathlib.Core.Bool.{Bool, true, false, cond}
+use mathlib.Core.Bool.{Bool, cond}
 use lib.ListN.{length, take, drop}
-use lib.Dec.{leb, eqb, T}
+use lib.Dec.{leb, T}
 use Rattle.bits.specs.Bits.{bitsN, numberOf, bitAt}
 use Rattle.bits.specs.declared.BitRead.{BitRead}
 

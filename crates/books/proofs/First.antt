@@ -1,21 +1,25 @@
 -- The search finds the first index of least distance. Assumes nothing.
 use Prim.Native.Nat.{ℕ, zero, suc, _+_, _-_, _*_, _^_, _≤_, _<_}
-use mathlib.Core.Path.{_≡_, refl, sym, ap, _∙_, subst}
+use mathlib.Core.Path.{_≡_, refl, sym, _∙_, subst}
 use mathlib.Core.Bool.{Bool, true, false, not, _&&_, _||_, cond, true≢false, Bool·beq}
 use mathlib.Core.List.{List, [], _∷_}
 use mathlib.Core.Logic.{_⊎_, inl, inr}
-use native.Mathlib.Nat.{not-le-of-lt, lt-of-not-le, eq-or-lt-of-le, le-of-lt, add-zero, add-suc, suc-add}
+use native.Mathlib.Nat.{not-le-of-lt, lt-of-not-le, eq-or-lt-of-le, le-of-lt, le-antisymm, add-zero, add-suc, suc-add}
 use native.Mathlib.Omega.{arith}
-use lib.Dec.{T, ltb, leb, eqb}
+use lib.Dec.{T, ltb}
 use lib.IntN.{ℤ, pos, negsuc}
+use lib.Pow.{pow-pos}
 use lib.ListN.{getD, length}
 use lib.Ieee.{Float, nan, inf, fin, Format, binary32, prec, emax, low, up, down, unlike, odd, units, round, sum, add, sub, mul, div, neg, ofInt, ofBits, lt}
 use lib.Ieee.Fits.{down-pos, round-is}
 use lib.Ieee.Positive.{through}
-use borrow.Author.Tests.{ltb-true, ltb-false, lt-ltb, le-ltb, lt-leb, leb-true, leb-false}
+use borrow.Author.Tests.{ltb-true, ltb-false, lt-ltb, le-ltb, le-leb}
+use Rattle.tables.specs.Tables.{book, vqBits}
+use Rattle.tables.proofs.Tests.{lt-or-le}
 use Rattle.levels.specs.Component.{tooLarge, someTooLarge}
 use Rattle.levels.specs.Value.{q15}
-use Rattle.books.specs.Books.{termOf, sumTo, distanceOf, searchFrom, nearestIn, FirstLeast}
+use Rattle.books.specs.Books.{termOf, sumTo, distanceOf, searchFrom, nearestIn, FirstLeast, searchOf, vqSearch}
+use Rattle.books.specs.declared.SearchResult.the-variants.{Index}
 
 -- ---- no NaN, and no NaN and not below zero
 abbrev real : Float → Bool
@@ -119,15 +123,15 @@ term-plain : (d x : Float) (e : ℤ) → tooLarge x ≡ false → T (plain d) �
 unfolding termOf
 term-plain d x e h p = add-plain d (mul binary32 (sub binary32 x (q15 e)) (sub binary32 x (q15 e))) p (square-plain (sub binary32 x (q15 e)) (sub-real x (q15 e) h (entry-real e)))
 
--- ---- components that are answered
+-- ---- components that are accepted
 or-false : (a b : Bool) → a || b ≡ false → (a ≡ false) × (b ≡ false)
 or-false true b h = absurd (true≢false h)
 or-false false b h = (refl, h)
 
-each-answered : (x : List Float) (j : ℕ) → someTooLarge x ≡ false → j < length x → tooLarge (getD x j nan) ≡ false
-each-answered [] j h k = absurd (omega arith)
-each-answered (y ∷ x) zero h k = or-false (tooLarge y) (someTooLarge x) h .0
-each-answered (y ∷ x) (suc j) h k = each-answered x j (or-false (tooLarge y) (someTooLarge x) h .1) (omega arith)
+each-accepted : (x : List Float) (j : ℕ) → someTooLarge x ≡ false → j < length x → tooLarge (getD x j nan) ≡ false
+each-accepted [] j h k = absurd (omega arith)
+each-accepted (y ∷ x) zero h k = or-false (tooLarge y) (someTooLarge x) h .0
+each-accepted (y ∷ x) (suc j) h k = each-accepted x j (or-false (tooLarge y) (someTooLarge x) h .1) (omega arith)
 
 -- ---- the order of such numbers
 apart : (a b c : Float) → T (plain a) → T (plain b) → T (plain c) → lt a b ≡ true → lt c b ≡ false → (lt a c ≡ true) × (lt c a ≡ false)
@@ -180,7 +184,7 @@ module _ (x : List Float) (b : List ℤ) (l : length x ≡ 6) (h : someTooLarge 
   sum-plain : (j a : ℕ) → j ≤ 6 → T (plain (sumTo j x b a))
   unfolding sumTo ofBits
   sum-plain zero a k = tt
-  sum-plain (suc j) a k = term-plain (sumTo j x b a) (getD x j nan) _ (each-answered x j h (omega arith)) (sum-plain j a (omega arith))
+  sum-plain (suc j) a k = term-plain (sumTo j x b a) (getD x j nan) _ (each-accepted x j h (omega arith)) (sum-plain j a (omega arith))
 
   distance-plain : (k : ℕ) → T (plain (D k))
   unfolding distanceOf
@@ -256,3 +260,28 @@ module _ (x : List Float) (b : List ℤ) (l : length x ≡ 6) (h : someTooLarge 
         none-smaller = λ k u. s .none-smaller k (omega arith);
         earlier-larger = s .earlier-larger;
       }
+
+-- ---- there is only one such index
+-- the later of two would have a smaller distance than the earlier
+not-later : (x : List Float) (b : List ℤ) (n k k′ : ℕ) → FirstLeast x b n k → FirstLeast x b n k′ → k′ ≤ k
+not-later x b n k k′ f g =
+    elim (lt-or-le k k′) [
+      | inl u ↦ absurd (true≢false (sym (g .earlier-larger k u) ∙ f .none-smaller k′ (g .there)))
+      | inr u ↦ u
+    ]
+
+pub first-unique : (x : List Float) (b : List ℤ) (n k k′ : ℕ) → FirstLeast x b n k → FirstLeast x b n k′ → k ≡ k′
+first-unique x b n k k′ f g = le-antisymm (not-later x b n k′ k g f) (not-later x b n k k′ f g)
+
+-- ---- the index that the search picks, and no other, is the first of least distance in the book of the hebap
+pub search-first : (h : ℕ) (x : List Float) → 1 ≤ h → h ≤ 7 → length x ≡ 6 → someTooLarge x ≡ false → FirstLeast x (book h) (2 ^ vqBits h) (searchOf h x)
+unfolding searchOf
+search-first h x l u s a = first-least x (book h) s a (2 ^ vqBits h) (pow-pos (vqBits h))
+
+pub search-only : (h : ℕ) (x : List Float) → 1 ≤ h → h ≤ 7 → length x ≡ 6 → someTooLarge x ≡ false → (k : ℕ) → FirstLeast x (book h) (2 ^ vqBits h) k → k ≡ searchOf h x
+search-only h x l u s a k f = first-unique x (book h) (2 ^ vqBits h) k (searchOf h x) f (search-first h x l u s a)
+
+-- and it is the answer
+pub search-answer : (h : ℕ) (x : List Float) → 1 ≤ h → h ≤ 7 → someTooLarge x ≡ false → vqSearch h x ≡ Index (searchOf h x)
+unfolding vqSearch
+search-answer h x l u a = rw (le-leb 1 h l, le-leb h 7 u, a)

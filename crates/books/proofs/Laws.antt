@@ -1,6 +1,6 @@
 -- Lists: copying to the front, and a book with more behind it. Assumes nothing.
 use Prim.Native.Nat.{ℕ, zero, suc, _+_, _*_, _^_, _≤_, _<_}
-use mathlib.Core.Path.{_≡_, refl, sym, ap, _∙_}
+use mathlib.Core.Path.{_≡_, refl, sym, _∙_}
 use mathlib.Core.Bool.{Bool, true, false, cond, _&&_}
 use mathlib.Core.List.{List, [], _∷_, _++_, append-assoc}
 use mathlib.Core.Logic.{_⊎_, inl, inr}
@@ -10,13 +10,13 @@ use native.Mathlib.Omega.{arith}
 use lib.Dec.{leb}
 use lib.IntN.{ℤ, pos}
 use lib.Pow.{pow-pos, pow-mono}
-use lib.Ieee.{Float, nan, inf, lt}
+use lib.Ieee.{Float, inf, lt}
 use lib.ListN.{length, take, drop, getD, set, List·getD-append, length-append}
 use lib.Seq.{take-all, take-suc, drop-cons, set-at, length-take-le}
-use borrow.Author.Tests.{lt-leb, leb-true, leb-false}
+use borrow.Author.Tests.{lt-leb, leb-true}
 use Rattle.tables.specs.Tables.{book, vqBits}
 use Rattle.tables.proofs.Rules.{book-none, book-size, vq-most}
-use Rattle.books.specs.Books.{hasBook, vectorsOf, termOf, sumTo, distanceOf, searchFrom, nearestIn, sixAt}
+use Rattle.books.specs.Books.{hasBook, vectorsOf, sumTo, distanceOf, searchFrom, nearestIn, sixAt}
 
 pub copy-turn : {A : Type 0} (b o : List A) (i : ℕ) (d : A) → i < length b → i < length o → set (take i b ++ drop i o) i (getD b i d) ≡ take (i + 1) b ++ drop (i + 1) o
 copy-turn b o i d h k =

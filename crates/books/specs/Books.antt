@@ -60,7 +60,7 @@ searchFrom x b (suc n) k best d =
 unfoldable pub nearestIn : List ℤ → ℕ → List Float → ℕ
 nearestIn b n x = searchFrom x b n 0 0 (inf false)
 
--- ---- vq_search: 5 for a component that is not answered, where the hebap has a book; 0 where it has none
+-- ---- vq_search: 5 for a component that is not accepted, where the hebap has a book; 0 where it has none
 -- the index that the search picks
 unfoldable pub searchOf : ℕ → List Float → ℕ
 searchOf h x = nearestIn (book h) (2 ^ vqBits h) x

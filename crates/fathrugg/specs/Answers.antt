@@ -14,7 +14,7 @@ use Rattle.levels.specs.declared.Code.{Code}
 use Rattle.levels.specs.Value.{valueIn}
 use Rattle.scalars.specs.declared.ScalarResult.{ScalarResult}
 use Rattle.books.specs.declared.SearchResult.{SearchResult}
-use Rattle.quantiser.specs.declared.ScalarCode.{ScalarCode}
+use Rattle.quantiser.specs.declared.PickResult.{PickResult}
 
 -- the position that a byte and a bit name
 abbrev pub place : ℕ → ℕ → BitPos
@@ -103,21 +103,21 @@ abbrev pub codeOf : Code → ℕ
 codeOf (Code.Small s) = s
 codeOf (Code.Large l) = l
 
-abbrev pub pickedNumber : ScalarCode → ℕ
-pickedNumber (ScalarCode.Picked c l) = 0
-pickedNumber (ScalarCode.Refused n) = n
+abbrev pub pickedNumber : PickResult → ℕ
+pickedNumber (PickResult.Picked c l) = 0
+pickedNumber (PickResult.Refused n) = n
 
-abbrev pub pickedLarge : ℕ → ScalarCode → ℕ
-pickedLarge v (ScalarCode.Picked c l) = largeOf c
-pickedLarge v (ScalarCode.Refused n) = v
+abbrev pub pickedLarge : ℕ → PickResult → ℕ
+pickedLarge v (PickResult.Picked c l) = largeOf c
+pickedLarge v (PickResult.Refused n) = v
 
-abbrev pub pickedCode : ℕ → ScalarCode → ℕ
-pickedCode v (ScalarCode.Picked c l) = codeOf c
-pickedCode v (ScalarCode.Refused n) = v
+abbrev pub pickedCode : ℕ → PickResult → ℕ
+pickedCode v (PickResult.Picked c l) = codeOf c
+pickedCode v (PickResult.Refused n) = v
 
-abbrev pub pickedValue : Float → ScalarCode → Float
-pickedValue v (ScalarCode.Picked c l) = valueIn l
-pickedValue v (ScalarCode.Refused n) = v
+abbrev pub pickedValue : Float → PickResult → Float
+pickedValue v (PickResult.Picked c l) = valueIn l
+pickedValue v (PickResult.Refused n) = v
 
 -- What a lent place holds after an answer that is a struct with the number n in it: v, or w where n refuses.
 abbrev pub afterNumber : {A : Type 0} → ℕ → A → A → A

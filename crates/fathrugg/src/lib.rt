@@ -19,8 +19,8 @@ use gains::CountResult;
 use gains::GainsResult;
 use levels::Code;
 use planner::Planned;
+use quantiser::PickResult;
 use quantiser::QuantisedBin;
-use quantiser::ScalarCode;
 use scalars::ScalarResult;
 use tables::HebapResult;
 
@@ -299,8 +299,8 @@ pub extern "C" fn fathrugg_quantise_scalar(
 {
     let answer = quantiser::quantise_scalar(hebap, gk, x);
     match answer {
-        ScalarCode::Refused(k) => k,
-        ScalarCode::Picked(c, l) => {
+        PickResult::Refused(k) => k,
+        PickResult::Picked(c, l) => {
             *large = large_of(c);
             *code = code_of(c);
             *value = levels::value_of(l);

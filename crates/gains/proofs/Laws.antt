@@ -1,8 +1,8 @@
--- Laws of marked bins, of codes put into a row, and of gain words.
+-- Laws of marked bins, of codes put into a row, of gain words, and of the gains that a mode allows.
 use Prim.Native.Nat.{ℕ, zero, suc, _+_, _-_, _*_, _/_, _%_, _≤_, _<_, _^_, min}
 use mathlib.Core.Path.{_≡_, refl, sym, ap, _∙_}
 use mathlib.Core.List.{List, [], _∷_, _++_, append-assoc, append-nil, map, map-append}
-use mathlib.Core.Bool.{Bool, true, false, cond}
+use mathlib.Core.Bool.{Bool, true, false, cond, _||_}
 use native.Mathlib.Nat.{zero-add, sub-zero, min-zero, min-comm, suc-min-suc, mul-suc, mul-zero, add-zero, add-assoc, add-comm, mul-le-mul-left, lt-of-lt-of-le}
 use native.Mathlib.Numerals.{add-one}
 use native.Mathlib.Omega.{arith}
@@ -17,7 +17,7 @@ use Rattle.bits.specs.declared.BitPos.{BitPos}
 use Rattle.bits.specs.declared.BitRead.{BitRead}
 use Rattle.bits.specs.declared.BitRead.the-variants.{Number}
 use Rattle.bits.proofs.Laws.{number-take-lt, read-good}
-use Rattle.gains.specs.Gains.{endbap, marked, gaqbinOf, markedBins, fillGaqbin, gaqbinAfter, wordBits, wordCodes, wordsRead, wordsEnd, codesFrom, gainCodes, readGaqGains, gainsAfter, placed}
+use Rattle.gains.specs.Gains.{endbap, marked, gaqbinOf, markedBins, fillGaqbin, gaqbinAfter, gainValue, otherGains, member, allowedGain, wordBits, wordCodes, wordsRead, wordsEnd, codesFrom, gainCodes, readGaqGains, gainsAfter, placed}
 use Rattle.gains.specs.declared.GainsResult.{GainsResult}
 use Rattle.gains.specs.declared.GainsResult.the-variants.{Codes}
 use Rattle.gains.specs.declared.CountResult.the-variants.{Count}
@@ -261,3 +261,20 @@ module _ (s out : List ℕ) (at mode n w m : ℕ) (few : mode ≤ 3) (ew : w ≡
       let l : k ≡ length (take (length out) codes) = ek ∙ sym (length-take (length out) codes) in
       let f : out′ ≡ take (length out) codes ++ drop (length (take (length out) codes)) out = eo ∙ placed-front out codes in
       (rw (le-leb mode 3 few, e, g, ← whole, l, ep), rw (le-leb mode 3 few, e, g) f)
+
+-- ---- the gains that a mode allows are the values of its codes
+pub allowed-values : (mode g : ℕ) → allowedGain mode g ≡ member g (gainValue 0 mode ∷ gainValue 1 mode ∷ gainValue 2 mode ∷ [])
+unfolding allowedGain otherGains gainValue
+allowed-values mode g = go (eqb mode 1) (eqb mode 2) (eqb mode 3)
+  where
+    -- a gain that two codes have counts once
+    again : (t u : Bool) → t || u ≡ t || (t || u)
+    again true u = refl
+    again false u = refl
+
+    go : (a b c : Bool) → member g (1 ∷ cond a (2 ∷ []) (cond b (4 ∷ []) (cond c (2 ∷ 4 ∷ []) [])))
+        ≡ member g (1 ∷ cond a 2 (cond b 4 (cond c 2 1)) ∷ cond a 2 (cond b 4 (cond c 4 1)) ∷ [])
+    go true b c = ap (λ (t : Bool). eqb g 1 || t) (again (eqb g 2) false)
+    go false true c = ap (λ (t : Bool). eqb g 1 || t) (again (eqb g 4) false)
+    go false false true = refl
+    go false false false = again (eqb g 1) false ∙ again (eqb g 1) (eqb g 1 || false)

@@ -1,18 +1,18 @@
 -- The test of a component's size. Assumes nothing.
-use mathlib.Core.Path.{_≡_, refl, sym, ap, _∙_, subst}
-use mathlib.Core.Bool.{Bool, true, false, not, cond, _&&_, _||_, true≢false}
+use mathlib.Core.Path.{_≡_, refl, sym, ap, _∙_}
+use mathlib.Core.Bool.{Bool, true, false, not, _&&_, _||_, true≢false}
 use mathlib.Core.List.{List, _∷_}
 use mathlib.Core.Logic.{inl, inr}
-use Prim.Native.Nat.{ℕ, zero, suc, _+_, _-_, _*_, _≤_, _<_}
+use Prim.Native.Nat.{ℕ, _+_, _-_, _*_, _≤_, _<_}
 use native.Mathlib.Nat.{eq-or-lt-of-le, mul-one}
 use native.Mathlib.Numerals.{add-one}
 use native.Mathlib.Omega.{arith}
-use borrow.Author.Tests.{le-leb, lt-ltb, le-ltb, eq-eqb, ne-eqb, ltb-true, ltb-false}
-use lib.Dec.{T, ltb, eqb}
-use lib.IntN.{ℤ, pos, negsuc}
+use borrow.Author.Tests.{lt-ltb, le-ltb, eq-eqb, ne-eqb, ltb-true, ltb-false}
+use lib.Dec.{ltb, eqb}
+use lib.IntN.{ℤ, pos}
 use lib.ListN.{length, drop, getD, drop-of-length-le}
 use lib.Seq.{drop-cons}
-use lib.Ieee.{Float, nan, inf, fin, up, down, binary32, ofBits, neg, lt, eq, le}
+use lib.Ieee.{Float, nan, inf, fin, up, down, lt, eq, le}
 use lib.Ieee.Fits.{down-pos}
 use Rattle.levels.specs.Component.{tooLarge, someTooLarge}
 

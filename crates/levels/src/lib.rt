@@ -79,7 +79,7 @@ fn signed_code(u: u32, w: u32) -> i32
     }
 }
 
-// Whether a component is answered: no NaN, and at most 1024 in size.
+// Whether a component is accepted: no NaN, and at most 1024 in size.
 pub fn in_range(x: f32) -> bool
     ensures { λ r. ⌜ r ≡ not (tooLarge x) ⌝ }
 {
@@ -89,7 +89,7 @@ pub fn in_range(x: f32) -> bool
     false
 }
 
-// Whether some component is not answered.
+// Whether some component is not accepted.
 pub fn any_too_large(x: &[f32]) -> bool
     ensures { λ r. ⌜ r ≡ someTooLarge (now (x .entry)) ⌝ }
 {

@@ -6,7 +6,7 @@ use Prim.Native.Nat.{ℕ, suc, _+_, _*_, _≤_, _<_}
 use native.Mathlib.Omega.{arith}
 use borrow.Author.Tests.{lt-ltb, le-ltb}
 use lib.Dec.{ltb}
-use lib.ListN.{length, drop}
+use lib.ListN.{length, take, drop, length-append}
 use lib.Ieee.{Float}
 use Rattle.planner.specs.Bins.{someOver}
 use Rattle.planner.specs.Choice.{planMode, planGains, planPayload, planBits, choiceBits, Choice, gainsOver}
@@ -18,7 +18,7 @@ use Rattle.planner.specs.declared.Planned.{Planned}
 use Rattle.planner.specs.declared.Tally.{Tally}
 use Rattle.planner.proofs.Sweep.{mode-is, plan-payload}
 use Rattle.planner.proofs.Optimal.{plan-least, plan-lowest}
-use Rattle.planner.proofs.Chosen.{plan-fits}
+use Rattle.planner.proofs.Chosen.{fits-choice, plan-fits}
 
 pub plan-is : (row : List ℕ) (x : List Float) (start end : ℕ) (t : Tally) (m p n : ℕ) (g z : List ℕ) → t ≡ tallyOf row x start end → m ≡ modeIn t → p ≡ payloadIn t m → z ≡ noGains
     → n ≡ length (gainsOver m row x start end) → g ≡ gainsOver m row x start end ++ drop (length (gainsOver m row x start end)) z
@@ -64,6 +64,10 @@ module _ (row : List ℕ) (start end : ℕ) (x : List Float) where
     planned-good p e h k =
         ap (λ (z : Plan). record { refusal = 0; plan = z }) e ∙ sym (rw (le-ltb end start a, le-ltb 256 end b, le-ltb (length row) end c, le-ltb (length x) (6 * end) d, h, k))
 
+    -- Where none of causes 1 to 5 holds a plan is given.
+    pub answer-given : someOver (unknownAt row) start end ≡ false → someOver (outsideAt row x) start end ≡ false → planned row start end x .refusal ≡ 0
+    answer-given h k = sym (ap (λ (r : Planned). r .refusal) (planned-good (planOf row x start end) refl h k))
+
 -- ---- an answer that is no refusal
 not-refused : (t : Bool) (n : ℕ) (b : Planned) → cond t (refusalOf (suc n)) b .refusal ≡ 0 → cond t (refusalOf (suc n)) b ≡ b
 unfolding refusalOf
@@ -94,6 +98,19 @@ module _ (row : List ℕ) (start end : ℕ) (x : List Float) (h : planned row st
   -- it fits,
   pub answer-fits : planFits (planned row start end x .plan) row start end x ≡ true
   answer-fits = rw (answer-plan row start end x h) (plan-fits row x start end)
+
+  -- it is itself a choice, with the bits that it says,
+  pub answer-choice : Choice (planned row start end x .plan .mode) (take (planned row start end x .plan .count) (planned row start end x .plan .gains)) row start end
+      × (2 + planned row start end x .plan .payload
+      ≡ choiceBits (planned row start end x .plan .mode) (take (planned row start end x .plan .count) (planned row start end x .plan .gains)) row x start end)
+  unfolding planOf choiceBits
+  answer-choice =
+      let p = planned row start end x .plan in
+      let g = planGains row x start end in
+      let n = length-append g (drop (length g) noGains) in
+      let r : p .count ≤ length (p .gains) = rw (answer-plan row start end x h) (omega arith) in
+      let c = fits-choice p row start end x r answer-fits in
+      (c .0, ap (λ (b : ℕ). 2 + b) (c .1))
 
   payload-is : planned row start end x .plan .payload ≡ planPayload row x start end
   unfolding planOf

@@ -1,12 +1,12 @@
 -- quantise_scalar and quantise_bin of the Rust, operation by operation. Document 01, Quantiser.
 use Prim.Native.Nat.{ℕ, suc, _+_, _-_, _%_, _^_}
-use mathlib.Core.Bool.{Bool, true, false, cond, _||_, _&&_}
+use mathlib.Core.Bool.{Bool, false, cond, _||_, _&&_}
 use mathlib.Core.List.{List, [], _∷_, map}
 use lib.Dec.{eqb, leb}
 use lib.IntN.{ℤ, pos, negsuc, negℤ, _+ℤ_, _-ℤ_}
 use lib.ListN.{replicate}
 use lib.Signed.{ltZ}
-use lib.Ieee.{Float, nan, inf, fin, binary32, ofBits, ofInt, add, sub, mul, div, lt, le, isNan}
+use lib.Ieee.{Float, nan, inf, fin, binary32, ofBits, add, sub, mul, div, lt, le, isNan}
 use Rattle.tables.specs.Tables.{mantBits}
 use Rattle.levels.specs.declared.Code.{Code}
 use Rattle.levels.specs.declared.Level.{Level}
@@ -16,7 +16,7 @@ use Rattle.levels.specs.Value.{f0, f1, power, gaqRemap, divided, valueIn}
 use Rattle.quantiser.specs.Round.{roundAway}
 use Rattle.quantiser.specs.declared.Best.{Best}
 use Rattle.quantiser.specs.declared.CodeLevel.{CodeLevel}
-use Rattle.quantiser.specs.declared.ScalarCode.{ScalarCode}
+use Rattle.quantiser.specs.declared.PickResult.{PickResult}
 use Rattle.quantiser.specs.declared.QuantisedBin.{QuantisedBin}
 
 -- ---- numbers
@@ -124,23 +124,20 @@ scalarBits h g x =
     let m = mantBits h in
     cond (eqb g 1) m (cond (isSmall (smallBits m g) (smallOf (m - 1) x)) (smallBits m g) (smallBits m g + largeBits m g))
 
--- as a struct, and as an answer
+-- as a struct
 abbrev pub codeLevel : Code × Level → CodeLevel
 codeLevel p = record { code = p .0; level = p .1 }
-
-abbrev pub answered : Code × Level → ScalarCode
-answered p = ScalarCode.Picked (p .0) (p .1)
 
 -- ---- quantise_scalar: 11, then 5
 -- hebap 8 to 19, Gk 1, 2 or 4, and Gk 1 alone above hebap 16
 abbrev pub allowed : ℕ → ℕ → Bool
 allowed h g = leb 8 h && leb h 19 && (eqb g 1 || leb h 16 && (eqb g 2 || eqb g 4))
 
-unfoldable pub quantised : ℕ → ℕ → Float → ScalarCode
+unfoldable pub quantised : ℕ → ℕ → Float → PickResult
 quantised h g x =
     cond (allowed h g)
-    (cond (tooLarge x) (ScalarCode.Refused 5) (answered (picked h g x)))
-    (ScalarCode.Refused 11)
+    (cond (tooLarge x) (PickResult.Refused 5) (PickResult.Picked (picked h g x .0) (picked h g x .1)))
+    (PickResult.Refused 11)
 
 -- ---- quantise_bin: the six values, their bits and the sum of the squared errors, in order
 abbrev pub binValues : ℕ → ℕ → List Float → List Float

@@ -13,7 +13,7 @@ use levels::Code;
 use levels::Level;
 
 // The code that is picked and its level, or the number of the refusal.
-pub enum ScalarCode {
+pub enum PickResult {
     Picked(Code, Level),
     Refused(u8),
 }
@@ -358,7 +358,7 @@ fn allows(hebap: u8, gk: u8) -> bool
 }
 
 // The code for x at the hebap and the gain. Refuses with 11, then 5.
-pub fn quantise_scalar(hebap: u8, gk: u8, x: f32) -> ScalarCode
+pub fn quantise_scalar(hebap: u8, gk: u8, x: f32) -> PickResult
     ensures { λ r. ⌜ r ≡ quantised hebap gk x ⌝ }
 {
     if allows(hebap, gk) {
@@ -366,11 +366,11 @@ pub fn quantise_scalar(hebap: u8, gk: u8, x: f32) -> ScalarCode
             let p = pick(hebap, gk, x);
             let code = p.code;
             let level = p.level;
-            return ScalarCode::Picked(code, level);
+            return PickResult::Picked(code, level);
         }
-        return ScalarCode::Refused(5);
+        return PickResult::Refused(5);
     }
-    ScalarCode::Refused(11)
+    PickResult::Refused(11)
 }
 
 // ---- a bin

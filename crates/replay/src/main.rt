@@ -13,8 +13,8 @@ use libc::STDIN_FILENO;
 use libc::STDOUT_FILENO;
 use planner::Plan;
 use planner::Planned;
+use quantiser::PickResult;
 use quantiser::QuantisedBin;
-use quantiser::ScalarCode;
 use scalars::ScalarResult;
 use tables::HebapResult;
 
@@ -346,12 +346,12 @@ fn same_code(r: &Record, code: Code) -> bool {
     }
 }
 
-fn replay_scalar(r: &Record, answer: ScalarCode) -> bool {
+fn replay_scalar(r: &Record, answer: PickResult) -> bool {
     match answer {
-        ScalarCode::Picked(code, level) => {
+        PickResult::Picked(code, level) => {
             same_code(r, code) && same_float(r, OUT_AFTER, levels::value_of(level))
         }
-        ScalarCode::Refused(k) => same_value(r, k, 0),
+        PickResult::Refused(k) => same_value(r, k, 0),
     }
 }
 

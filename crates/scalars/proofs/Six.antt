@@ -1,17 +1,17 @@
 -- The loop over the six codes of a bin: what is known before each turn, and what a turn does. Assumes nothing.
 use Prim.Native.Nat.{ℕ, zero, suc, _+_, _-_, _*_, _≤_, _<_}
-use mathlib.Core.Path.{_≡_, refl, sym, ap, _∙_, subst}
+use mathlib.Core.Path.{_≡_, refl, sym, ap, _∙_}
 use mathlib.Core.List.{List, [], _∷_, _++_, map, map-append, append-assoc, append-nil}
 use mathlib.Core.Bool.{Bool}
 use native.Mathlib.Omega.{arith}
 use lib.IntN.{ℤ}
 use lib.Ieee.{Float}
 use lib.ListN.{length, drop, set, replicate, length-append, length-map, drop-of-length-le}
-use Rattle.bits.specs.Bits.{bitsOf, bitAt, posOf, splice, Inside}
-use Rattle.bits.specs.Format.{Got, got, refused, andThen, Format, each, each-Ok, each-dec, resume}
+use Rattle.bits.specs.Bits.{bitsOf, bitAt, splice, Inside}
+use Rattle.bits.specs.Format.{Got, got, refused, andThen, Format, each-Ok, each-dec, resume}
 use Rattle.bits.specs.declared.BitPos.{BitPos}
 use Rattle.bits.proofs.Laws.{splice-none, splice-one, splice-more, length-splice}
-use Rattle.bits.proofs.Lawful.{Lawful, each-lawful, resume-none, resume-next, resume-stop, resume-done}
+use Rattle.bits.proofs.Lawful.{each-lawful, resume-none, resume-next, resume-stop, resume-done}
 use Rattle.bits.proofs.Reading.{pos-is}
 use Rattle.tables.specs.Tables.{mantBits}
 use Rattle.levels.specs.declared.Code.{Code}

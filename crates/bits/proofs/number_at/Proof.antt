@@ -4,7 +4,7 @@ use mathlib.Core.Path.{_≡_}
 use native.Mathlib.Nat.{lt-of-lt-of-le}
 use denote.Ref.{now}
 use lib.Pow.{pow-pos, pow-mono, shl-lt}
-use lib.ListN.{length, take, drop}
+use lib.ListN.{take, drop}
 use Rattle.bits.specs.Bits.{bitsOf, numberOf}
 use Rattle.bits.proofs.Laws.{number-next, number-take-lt}
 use native.Mathlib.Omega.{arith}

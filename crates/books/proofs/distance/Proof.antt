@@ -1,6 +1,6 @@
 -- `books::distance` meets its contract. Assumes nothing.
-use mathlib.Core.Path.{_≡_, _∙_, refl, ap, sym}
-use Prim.Native.Nat.{ℕ, _≤_, _<_, _-_, _+_, suc}
+use mathlib.Core.Path.{_≡_, _∙_, refl, ap}
+use Prim.Native.Nat.{ℕ, _≤_, _-_, _+_}
 use native.Mathlib.Omega.{arith}
 use native.Mathlib.Numerals.{add-one}
 use mir.Syntax.{w16}
@@ -8,7 +8,7 @@ use mir.Val.{SFits}
 use mir.ValLaws.{toZ-ofZ}
 use lib.IntN.{pos}
 use lib.Ieee.{Float, nan}
-use lib.ListN.{length, getD}
+use lib.ListN.{getD}
 use borrow.Author.Needs.{needs}
 use Rattle.books.specs.Books.{termOf, sumTo}
 use Rattle.books.proofs.distance.Statement.{statement}

@@ -1,11 +1,9 @@
 -- `books::load_book` meets its contract: each arm is the same law. Assumes nothing.
-use mathlib.Core.Path.{_≡_, refl, sym, ap, _∙_}
-use mathlib.Core.Logic.{_⊎_, inl, inr}
+use mathlib.Core.Path.{refl}
 use denote.Ref.{now}
 use Rattle.tables.specs.Numbers.{vqBitsTable}
 use Rattle.tables.specs.Tables.{book, vqBits}
 use Rattle.books.proofs.Laws.{loaded, none-loaded, outside}
-use native.Mathlib.Omega.{arith}
 use borrow.Author.Needs.{needs}
 use Rattle.books.proofs.load_book.Statement.{statement}
 use Rattle.books.proofs.load_book.Tie as tie

@@ -1,9 +1,8 @@
 -- `books::lookup_with` meets its contract. Assumes nothing.
 use Prim.Native.Nat.{_%_, _*_, _+_, _^_, _<_, _≤_}
-use mathlib.Core.Path.{_≡_, refl, sym, ap, _∙_}
+use mathlib.Core.Path.{_≡_, _∙_}
 use native.Mathlib.Nat.{mod-lt}
-use denote.Ref.{now}
-use lib.ListN.{length, drop}
+use lib.ListN.{length}
 use Rattle.tables.specs.Tables.{book, vqBits}
 use Rattle.books.specs.Books.{vqLookup, sixAt}
 use Rattle.books.proofs.Laws.{HasBook, no-book, has-book, same-six, longer}

@@ -1,8 +1,7 @@
 -- `books::search_with` meets its contract. Assumes nothing.
-use Prim.Native.Nat.{_*_, _^_, _≤_}
-use mathlib.Core.Path.{_≡_, refl, sym, ap, _∙_}
+use Prim.Native.Nat.{_^_}
+use mathlib.Core.Path.{_≡_, sym, ap, _∙_}
 use denote.Ref.{now}
-use lib.ListN.{length}
 use Rattle.tables.specs.Tables.{book, vqBits}
 use Rattle.books.specs.declared.SearchResult.the-variants.{Index}
 use Rattle.books.specs.Books.{vqSearch, searchOf, nearestIn}

@@ -1,5 +1,5 @@
 -- `fathrugg::fathrugg_hebap_from_address` meets its contract: what the call below answers is handed on. Assumes nothing.
-use mathlib.Core.Path.{_≡_, refl, sym, ap, _∙_}
+use mathlib.Core.Path.{_≡_, refl, sym, _∙_}
 use mir.Syntax.{w16, w32}
 use mir.ValLaws.{toZ-ofZ}
 use Rattle.tables.specs.Tables.{hebapFromAddress}

@@ -1,12 +1,11 @@
 -- `replay::float_of` meets its contract: bits up to those of the infinities are no NaN's. Assumes nothing.
 use Prim.Native.Nat.{ℕ, _%_, _≤_}
-use mathlib.Core.Path.{_≡_, sym, subst, _∙_}
-use mathlib.Core.Bool.{Bool, false, not}
+use mathlib.Core.Path.{sym, subst, _∙_}
+use mathlib.Core.Bool.{Bool, not}
 use lib.Dec.{T}
 use lib.Ieee.{binary32, nanBits}
 use lib.Ieee.Bits.{nanBits-above}
 use borrow.Author.Tests.{le-ltb}
-use borrow.Author.Needs.{needs}
 use Rattle.replay.proofs.float_of.Statement.{statement}
 use Rattle.replay.proofs.float_of.Tie as tie
 

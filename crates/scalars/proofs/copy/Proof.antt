@@ -1,10 +1,10 @@
 -- `scalars::copy` meets its contract. Assumes nothing.
 use Prim.Native.Nat.{_-_, _≤_}
-use mathlib.Core.Path.{_≡_, refl, _∙_, ap}
+use mathlib.Core.Path.{_≡_, refl, _∙_}
 use mathlib.Core.List.{_++_}
 use denote.Ref.{now}
 use lib.Ieee.{nan}
-use lib.ListN.{length, take, drop, set, length-set}
+use lib.ListN.{length, take, drop, length-set}
 use Rattle.scalars.proofs.Laws.{copy-turn, copy-end}
 use native.Mathlib.Omega.{arith}
 use borrow.Author.Needs.{needs}

@@ -1,13 +1,11 @@
 -- `scalars::read_bin` meets its contract. Assumes nothing.
-use Prim.Native.Nat.{_*_}
-use mathlib.Core.Path.{_≡_, refl, sym, ap, _∙_}
+use mathlib.Core.Path.{sym, ap, _∙_}
 use denote.Ref.{now}
 use lib.ListN.{length, drop}
 use Rattle.bits.specs.Bits.{bitsOf, bitAt}
 use Rattle.bits.proofs.Reading.{pos-is}
 use Rattle.scalars.specs.declared.ScalarResult.{ScalarResult}
 use Rattle.scalars.proofs.Laws.{bin-none, bin-values}
-use native.Mathlib.Omega.{arith}
 use borrow.Author.Needs.{needs}
 use Rattle.scalars.proofs.read_bin.Statement.{statement}
 use Rattle.scalars.proofs.read_bin.Tie as tie

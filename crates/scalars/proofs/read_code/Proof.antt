@@ -1,13 +1,12 @@
 -- `scalars::read_code` meets its contract. Assumes nothing.
-use Prim.Native.Nat.{ℕ, _-_, _*_, _≤_}
+use Prim.Native.Nat.{ℕ, _-_, _≤_}
 use mathlib.Core.Path.{_≡_, sym, _∙_}
 use mathlib.Core.Bool.{Bool, true, false, cond}
 use mathlib.Core.Logic.{inl}
 use denote.Ref.{now}
 use lib.Dec.{eqb}
-use lib.ListN.{length, drop}
 use borrow.Author.Tests.{eq-eqb, ne-eqb}
-use Rattle.bits.specs.Bits.{bitsOf, bitAt}
+use Rattle.bits.specs.Bits.{bitAt}
 use Rattle.bits.proofs.Reading.{number-as, next-inside}
 use Rattle.tables.specs.Tables.{mantBits}
 use Rattle.tables.proofs.Rules.{mant-bits}

@@ -1,19 +1,16 @@
 -- `scalars::read_six` meets its contract: before each turn the codes read so far are known (Six.SoFar). Assumes nothing.
-use Prim.Native.Nat.{_-_, _*_, _+_, _≤_, _<_}
+use Prim.Native.Nat.{_-_, _*_}
 use mathlib.Core.Path.{_≡_, refl, sym, ap, _∙_}
 use denote.Ref.{now}
-use lib.IntN.{ℤ}
 use lib.ListN.{length, drop, length-set}
 use mir.Syntax.{w32}
 use mir.ValLaws.{toZ-ofZ}
 use Rattle.bits.specs.Bits.{bitsOf, bitAt, Inside}
 use Rattle.bits.specs.Format.{got}
-use Rattle.bits.specs.declared.BitPos.{BitPos}
 use Rattle.tables.specs.Tables.{mantBits}
-use Rattle.levels.specs.Codes.{coded, six}
-use Rattle.levels.specs.Exact.{exactOf}
+use Rattle.levels.specs.Codes.{coded}
 use Rattle.levels.specs.Value.{valueIn, valueOf}
-use Rattle.scalars.specs.Scalars.{codeIn, CodeNext}
+use Rattle.scalars.specs.Scalars.{codeIn}
 use Rattle.scalars.proofs.Six.{SoFar, none-yet, one-more, cut, cut-there, put, done, done-there, code-accepted}
 use native.Mathlib.Omega.{arith}
 use borrow.Author.Needs.{needs}

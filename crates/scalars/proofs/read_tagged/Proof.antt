@@ -1,5 +1,5 @@
 -- `scalars::read_tagged` meets its contract. Assumes nothing.
-use Prim.Native.Nat.{_*_, _≤_}
+use Prim.Native.Nat.{_*_}
 use mathlib.Core.Path.{_≡_, sym, _∙_}
 use mathlib.Core.Logic.{inl, inr}
 use denote.Ref.{now}
@@ -7,7 +7,6 @@ use lib.ListN.{length, drop}
 use Rattle.bits.specs.Bits.{bitsOf, bitAt, Inside}
 use Rattle.bits.specs.Format.{number, got}
 use Rattle.bits.proofs.Reading.{number-as, next-inside}
-use Rattle.levels.specs.Codes.{tag}
 use Rattle.levels.proofs.CodeLaws.{tagged-none, tagged-small, tagged-cut, tagged-large}
 use native.Mathlib.Omega.{arith}
 use borrow.Author.Needs.{needs}

@@ -1,13 +1,12 @@
 -- `scalars::read_values` meets its contract. Assumes nothing.
 use Prim.Native.Nat.{_*_}
-use mathlib.Core.Path.{_≡_, refl, sym, _∙_}
+use mathlib.Core.Path.{refl, sym, _∙_}
 use denote.Ref.{now}
 use lib.ListN.{length, drop}
 use Rattle.bits.specs.Bits.{bitsOf, bitAt}
 use Rattle.tables.specs.Tables.{mantBits}
 use Rattle.levels.specs.Codes.{six}
 use Rattle.scalars.proofs.Six.{values-none, values-all}
-use native.Mathlib.Omega.{arith}
 use borrow.Author.Needs.{needs}
 use Rattle.scalars.proofs.read_values.Statement.{statement}
 use Rattle.scalars.proofs.read_values.Tie as tie

@@ -3,7 +3,7 @@ use Prim.Native.Nat.{_+_, _*_, _-_, _/_, _%_}
 use mathlib.Core.Path.{_≡_}
 use native.Mathlib.Omega.{arith}
 use Rattle.bits.specs.Bits.{bitAt}
-use Rattle.bits.proofs.Laws.{Spread, spread}
+use Rattle.bits.proofs.Laws.{spread}
 use borrow.Author.Needs.{needs}
 use Rattle.bits.proofs.BitPos.after.Statement.{statement}
 use Rattle.bits.proofs.BitPos.after.Tie as tie

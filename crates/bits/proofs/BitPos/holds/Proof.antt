@@ -4,7 +4,7 @@ use mathlib.Core.Path.{sym}
 use borrow.Author.Tests.{lt-leb}
 use native.Mathlib.Omega.{arith}
 use Rattle.bits.specs.Bits.{bitAt}
-use Rattle.bits.proofs.Laws.{Spread, spread, leb-same}
+use Rattle.bits.proofs.Laws.{spread, leb-same}
 use borrow.Author.Needs.{needs}
 use Rattle.bits.proofs.BitPos.holds.Statement.{statement}
 use Rattle.bits.proofs.BitPos.holds.Tie as tie

@@ -1,11 +1,11 @@
 -- `bits::BitPos::write_u32` meets its contract: at each `return` the tests that led there say which case of the definition holds. Assumes nothing.
 use Prim.Native.Nat.{_+_, _*_, _/_, _%_, _≤_, _<_}
-use mathlib.Core.Path.{_≡_, refl, sym, _∙_}
+use mathlib.Core.Path.{_≡_, sym, _∙_}
 use borrow.Author.Tests.{leb-true, leb-false}
 use denote.Ref.{now}
 use lib.ListN.{length}
 use Rattle.bits.specs.Bits.{bitAt, bitsOf, bitsN, splice}
-use Rattle.bits.proofs.Laws.{write-wide, write-short, write-good, bytes-with, Bytes}
+use Rattle.bits.proofs.Laws.{write-wide, write-short, write-good, bytes-with}
 use native.Mathlib.Omega.{arith}
 use borrow.Author.Needs.{needs}
 use Rattle.bits.proofs.BitPos.write_u32.Statement.{statement}

@@ -1,0 +1,1 @@
+// The layout of a channel's field: definitions and laws alone.
