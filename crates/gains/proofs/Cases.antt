@@ -4,8 +4,8 @@ use mathlib.Core.Path.{_≡_, refl, sym, ap, _∙_, subst}
 use mathlib.Core.List.{[], _∷_}
 use mathlib.Core.Bool.{Bool, true, false, cond, not, _&&_, _||_, true≢false}
 use native.Mathlib.Omega.{arith}
-use lib.Dec.{eqb, ltb}
-use borrow.Author.Tests.{le-leb, lt-leb, lt-ltb, le-ltb, ltb-true, ltb-false, eq-eqb, ne-eqb, eqb-true}
+use lib.Dec.{eqb, leb, ltb}
+use borrow.Author.Tests.{le-leb, lt-leb, lt-ltb, le-ltb, ltb-true, ltb-false, leb-true, eq-eqb, ne-eqb, eqb-true}
 use Rattle.gains.specs.Gains.{endbap, active, codingOf, otherGains, member, allowedGain}
 use Rattle.gains.specs.declared.Coding.{Coding}
 
@@ -75,6 +75,23 @@ module _ (mode h : ℕ) where
   pub coding-scalar : 8 ≤ h → (t : Bool) → t ≡ active mode h → cond t Coding.Adaptive Coding.Fixed ≡ codingOf mode h
   unfolding codingOf
   coding-scalar l t e = ap (λ (u : Bool). cond u Coding.Adaptive Coding.Fixed) e ∙ sym (rw (ne-eqb h 0 (λ (e : h ≡ 0). omega arith), lt-leb h 7 l))
+
+-- a bin is coded at a gain of its own exactly where it is active
+abbrev pub adaptive : Coding → Bool
+adaptive Coding.Nothing = false
+adaptive Coding.Book = false
+adaptive Coding.Fixed = false
+adaptive Coding.Adaptive = true
+
+pub adaptive-active : (mode h : ℕ) → adaptive (codingOf mode h) ≡ active mode h
+unfolding codingOf
+adaptive-active mode h = go (eqb h 0) refl (leb h 7) refl (active mode h) refl
+  where
+    go : (s : Bool) → eqb h 0 ≡ s → (t : Bool) → leb h 7 ≡ t → (u : Bool) → active mode h ≡ u → adaptive (cond s Coding.Nothing (cond t Coding.Book (cond u Coding.Adaptive Coding.Fixed))) ≡ u
+    go true p t r u e = let z = eqb-true h 0 p in active-low mode h (omega arith) ∙ e
+    go false p true r u e = let z = leb-true h 7 r in active-low mode h (omega arith) ∙ e
+    go false p false r true e = refl
+    go false p false r false e = refl
 
 -- ---- the gains that a mode allows
 or-none : (b : Bool) → b ≡ b || false

@@ -63,10 +63,11 @@ pub fn coding_of(gaqmod: u8, hebap: u8) -> Coding
 pub fn is_active(gaqmod: u8, hebap: u8) -> bool
     ensures { λ r. ⌜ r ≡ active gaqmod hebap ⌝ }
 {
-    match hebap {
-        8..=11 => 0 < gaqmod,
-        12..=16 => 1 < gaqmod,
-        _ => false,
+    match coding_of(gaqmod, hebap) {
+        Coding::Nothing => false,
+        Coding::Book => false,
+        Coding::Fixed => false,
+        Coding::Adaptive => true,
     }
 }
 

@@ -11,7 +11,7 @@ use lib.Ieee.{Float}
 use Rattle.planner.specs.Bins.{someOver}
 use Rattle.planner.specs.Choice.{planMode, planGains, planPayload, planBits, choiceBits, Choice, gainsOver}
 use Rattle.planner.specs.Work.{tallyOf, payloadIn, modeIn}
-use Rattle.planner.specs.Planning.{noGains, unknownAt, outsideAt, refusalOf, planOf, planned}
+use Rattle.planner.specs.Planning.{noGains, unknownAt, tooLargeAt, refusalOf, planOf, planned, totalOf}
 use Rattle.planner.specs.Fit.{planFits}
 use Rattle.planner.specs.declared.Plan.{Plan}
 use Rattle.planner.specs.declared.Planned.{Planned}
@@ -54,18 +54,18 @@ module _ (row : List ℕ) (start end : ℕ) (x : List Float) where
     unfolding planned
     planned-4 h = sym (rw (le-ltb end start a, le-ltb 256 end b, le-ltb (length row) end c, le-ltb (length x) (6 * end) d, h))
 
-    pub planned-5 : someOver (unknownAt row) start end ≡ false → someOver (outsideAt row x) start end ≡ true → refusalOf 5 ≡ planned row start end x
+    pub planned-5 : someOver (unknownAt row) start end ≡ false → someOver (tooLargeAt row x) start end ≡ true → refusalOf 5 ≡ planned row start end x
     unfolding planned
     planned-5 h k = sym (rw (le-ltb end start a, le-ltb 256 end b, le-ltb (length row) end c, le-ltb (length x) (6 * end) d, h, k))
 
-    pub planned-good : (p : Plan) → p ≡ planOf row x start end → someOver (unknownAt row) start end ≡ false → someOver (outsideAt row x) start end ≡ false
+    pub planned-good : (p : Plan) → p ≡ planOf row x start end → someOver (unknownAt row) start end ≡ false → someOver (tooLargeAt row x) start end ≡ false
         → _≡_ {A = Planned} (record { refusal = 0; plan = p }) (planned row start end x)
     unfolding planned
     planned-good p e h k =
         ap (λ (z : Plan). record { refusal = 0; plan = z }) e ∙ sym (rw (le-ltb end start a, le-ltb 256 end b, le-ltb (length row) end c, le-ltb (length x) (6 * end) d, h, k))
 
     -- Where none of causes 1 to 5 holds a plan is given.
-    pub answer-given : someOver (unknownAt row) start end ≡ false → someOver (outsideAt row x) start end ≡ false → planned row start end x .refusal ≡ 0
+    pub answer-given : someOver (unknownAt row) start end ≡ false → someOver (tooLargeAt row x) start end ≡ false → planned row start end x .refusal ≡ 0
     answer-given h k = sym (ap (λ (r : Planned). r .refusal) (planned-good (planOf row x start end) refl h k))
 
 -- ---- an answer that is no refusal
@@ -79,7 +79,7 @@ pub answer-plan : (row : List ℕ) (start end : ℕ) (x : List Float) → planne
 unfolding planned
 answer-plan row start end x h =
     let r6 : Planned = record { refusal = 0; plan = planOf row x start end } in
-    let r5 = cond (someOver (outsideAt row x) start end) (refusalOf 5) r6 in
+    let r5 = cond (someOver (tooLargeAt row x) start end) (refusalOf 5) r6 in
     let r4 = cond (someOver (unknownAt row) start end) (refusalOf 4) r5 in
     let r3 = cond (ltb (length row) end || ltb (length x) (6 * end)) (refusalOf 3) r4 in
     let r2 = cond (ltb 256 end) (refusalOf 2) r3 in
@@ -92,7 +92,7 @@ answer-plan row start end x h =
     let h4 : r4 .refusal ≡ 0 = ap number (sym e3) ∙ h3 in
     let e4 = not-refused (someOver (unknownAt row) start end) 3 r5 h4 in
     let h5 : r5 .refusal ≡ 0 = ap number (sym e4) ∙ h4 in
-    ap (λ (p : Planned). p .plan) (e1 ∙ e2 ∙ e3 ∙ e4 ∙ not-refused (someOver (outsideAt row x) start end) 4 r6 h5)
+    ap (λ (p : Planned). p .plan) (e1 ∙ e2 ∙ e3 ∙ e4 ∙ not-refused (someOver (tooLargeAt row x) start end) 4 r6 h5)
 
 module _ (row : List ℕ) (start end : ℕ) (x : List Float) (h : planned row start end x .refusal ≡ 0) where
   -- it fits,
@@ -101,7 +101,7 @@ module _ (row : List ℕ) (start end : ℕ) (x : List Float) (h : planned row st
 
   -- it is itself a choice, with the bits that it says,
   pub answer-choice : Choice (planned row start end x .plan .mode) (take (planned row start end x .plan .count) (planned row start end x .plan .gains)) row start end
-      × (2 + planned row start end x .plan .payload
+      × (totalOf (planned row start end x .plan)
       ≡ choiceBits (planned row start end x .plan .mode) (take (planned row start end x .plan .count) (planned row start end x .plan .gains)) row x start end)
   unfolding planOf choiceBits
   answer-choice =
@@ -121,11 +121,11 @@ module _ (row : List ℕ) (start end : ℕ) (x : List Float) (h : planned row st
   plan-mode-is = ap (λ (p : Plan). p .mode) (answer-plan row start end x h)
 
   -- no choice has fewer bits,
-  pub answer-least : (mode : ℕ) (gains : List ℕ) → Choice mode gains row start end → 2 + planned row start end x .plan .payload ≤ choiceBits mode gains row x start end
+  pub answer-least : (mode : ℕ) (gains : List ℕ) → Choice mode gains row start end → totalOf (planned row start end x .plan) ≤ choiceBits mode gains row x start end
   unfolding planBits
   answer-least mode gains c = rw payload-is (plan-least mode gains row x start end c)
 
   -- and one of a lower mode has more.
-  pub answer-lowest : (mode : ℕ) (gains : List ℕ) → Choice mode gains row start end → mode < planned row start end x .plan .mode → 2 + planned row start end x .plan .payload < choiceBits mode gains row x start end
+  pub answer-lowest : (mode : ℕ) (gains : List ℕ) → Choice mode gains row start end → mode < planned row start end x .plan .mode → totalOf (planned row start end x .plan) < choiceBits mode gains row x start end
   unfolding planBits
   answer-lowest mode gains c l = rw payload-is (plan-lowest mode gains row x start end c (rw plan-mode-is at l))

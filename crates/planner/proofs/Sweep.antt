@@ -9,19 +9,20 @@ use native.Mathlib.Numerals.{add-one}
 use native.Mathlib.Omega.{arith}
 use borrow.Author.Tests.{le-leb, lt-leb, ne-eqb, eqb-true}
 use lib.Dec.{leb, eqb}
-use lib.ListN.{length, getD, drop, set, length-append, length-set}
+use lib.ListN.{length, getD, take, drop, set, length-append, length-set}
 use lib.Seq.{set-at, drop-cons}
 use lib.Ieee.{Float, nan}
 use Rattle.tables.specs.Tables.{mantBits, vqBits}
 use Rattle.tables.proofs.Rules.{mant-bits, mant-none, vq-most}
 use Rattle.tables.proofs.Tests.{lt-or-le}
 use Rattle.levels.specs.Codes.{smallBits}
+use Rattle.levels.specs.Component.{someTooLarge}
 use Rattle.quantiser.specs.Quantise.{smallOf, isSmall, scalarBits}
 use Rattle.gains.specs.Gains.{endbap, active, codingOf, otherGains, member, allowedGain, wordBits, sections, gainWordBits}
 use Rattle.gains.specs.declared.Coding.{Coding}
 use Rattle.gains.proofs.Cases.{active-range, three-gains}
-use Rattle.planner.specs.Bins.{sumOver, someOver}
-use Rattle.planner.specs.Planning.{outsideAt, tooLargeAt}
+use Rattle.planner.specs.Bins.{sumOver}
+use Rattle.planner.specs.Planning.{tooLargeAt}
 use Rattle.planner.specs.Cost.{componentBits, sixBits, binBits}
 use Rattle.planner.specs.Choice.{activeAt, activeCount, bestGain, leastAt, leastOf, planMode, gainsOver, planPayload}
 use Rattle.planner.specs.Work.{costsOf, costIn, gainIn, codedBits, leastIn, tallyOf, withBin, payloadIn, modeIn, Bounded}
@@ -231,10 +232,12 @@ filled-end mode row x start k end old now n a b f =
     (c, f .is ∙ ap (λ (l : List ℕ). l ++ drop n old) e ∙ ap (λ (z : ℕ). gainsOver mode row x start end ++ drop z old) c)
 
 -- ---- cause 5 at a bin
-pub outside-none : (row : List ℕ) (x : List Float) (k : ℕ) → getD row k 0 ≡ 0 → false ≡ outsideAt row x k
-unfolding outsideAt
-outside-none row x k e = sym (ap (λ (z : ℕ). not (eqb z 0) && someOver (tooLargeAt x) (6 * k) (6 * k + 6)) e)
+pub too-large-none : (row : List ℕ) (x : List Float) (k : ℕ) → getD row k 0 ≡ 0 → false ≡ tooLargeAt row x k
+unfolding tooLargeAt
+too-large-none row x k e = sym (ap (λ (z : ℕ). not (eqb z 0) && someTooLarge (take 6 (drop (6 * k) x))) e)
 
-pub outside-some : (row : List ℕ) (x : List Float) (k : ℕ) (r : Bool) → (getD row k 0 ≡ 0 → ⊥) → r ≡ someOver (tooLargeAt x) (6 * k) (6 * k + 6) → r ≡ outsideAt row x k
-unfolding outsideAt
-outside-some row x k r n e = e ∙ sym (ap (λ (t : Bool). not t && someOver (tooLargeAt x) (6 * k) (6 * k + 6)) (ne-eqb (getD row k 0) 0 n))
+pub too-large-some : (row : List ℕ) (x : List Float) (k : ℕ) (r : Bool) → (getD row k 0 ≡ 0 → ⊥) → r ≡ someTooLarge (take (6 * k + 6 - 6 * k) (drop (6 * k) x)) → r ≡ tooLargeAt row x k
+unfolding tooLargeAt
+too-large-some row x k r n e =
+    let six : 6 * k + 6 - 6 * k ≡ 6 = omega arith in
+    e ∙ ap (λ (w : ℕ). someTooLarge (take w (drop (6 * k) x))) six ∙ sym (ap (λ (t : Bool). not t && someTooLarge (take 6 (drop (6 * k) x))) (ne-eqb (getD row k 0) 0 n))

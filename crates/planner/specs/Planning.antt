@@ -3,9 +3,9 @@ use Prim.Native.Nat.{ℕ, _+_, _*_}
 use mathlib.Core.Bool.{Bool, cond, not, _&&_, _||_}
 use mathlib.Core.List.{List, _++_}
 use lib.Dec.{eqb, ltb}
-use lib.ListN.{length, getD, drop, replicate}
-use lib.Ieee.{Float, nan}
-use Rattle.levels.specs.Component.{tooLarge}
+use lib.ListN.{length, getD, take, drop, replicate}
+use lib.Ieee.{Float}
+use Rattle.levels.specs.Component.{someTooLarge}
 use Rattle.planner.specs.Bins.{someOver}
 use Rattle.planner.specs.Choice.{planMode, planGains, planPayload}
 use Rattle.planner.specs.declared.Plan.{Plan}
@@ -18,12 +18,9 @@ noGains = replicate 256 0
 unfoldable pub unknownAt : List ℕ → ℕ → Bool
 unknownAt row k = ltb 19 (getD row k 0)
 
-unfoldable pub tooLargeAt : List Float → ℕ → Bool
-tooLargeAt x i = tooLarge (getD x i nan)
-
--- the components of hebap 0 are never looked at
-unfoldable pub outsideAt : List ℕ → List Float → ℕ → Bool
-outsideAt row x k = not (eqb (getD row k 0) 0) && someOver (tooLargeAt x) (6 * k) (6 * k + 6)
+-- a component NaN, infinite or over 1024 in size, in a bin with hebap not 0
+unfoldable pub tooLargeAt : List ℕ → List Float → ℕ → Bool
+tooLargeAt row x k = not (eqb (getD row k 0) 0) && someTooLarge (take 6 (drop (6 * k) x))
 
 -- ---- the answer
 -- a plan of zeros stands beside a refusal
@@ -42,6 +39,10 @@ planOf row x start end = record {
   payload = planPayload row x start end;
 }
 
+-- the total: the two bits of the mode and the payload
+abbrev pub totalOf : Plan → ℕ
+totalOf p = 2 + p .payload
+
 -- 1 to 5, the lowest that holds
 unfoldable pub planned : List ℕ → ℕ → ℕ → List Float → Planned
 planned row start end x =
@@ -49,4 +50,4 @@ planned row start end x =
     (cond (ltb 256 end) (refusalOf 2)
     (cond (ltb (length row) end || ltb (length x) (6 * end)) (refusalOf 3)
     (cond (someOver (unknownAt row) start end) (refusalOf 4)
-    (cond (someOver (outsideAt row x) start end) (refusalOf 5) (record { refusal = 0; plan = planOf row x start end })))))
+    (cond (someOver (tooLargeAt row x) start end) (refusalOf 5) (record { refusal = 0; plan = planOf row x start end })))))

@@ -9,7 +9,7 @@ ghost use Rattle.planner.specs.Bins.{sumOver, someOver};
 ghost use Rattle.planner.specs.Choice.{cheaper, gainsOver, activeCount, chosenAt};
 ghost use Rattle.planner.specs.Fit.{wrongGain, planFits};
 ghost use Rattle.planner.specs.Work.{sizeOf, limitsOf, bitsBySize, costsOf, costIn, gainIn, codedBits, leastIn, tallyOf, withBin, payloadIn, modeIn, Bounded, Within};
-ghost use Rattle.planner.specs.Planning.{noGains, unknownAt, tooLargeAt, outsideAt, refusalOf, planOf, planned};
+ghost use Rattle.planner.specs.Planning.{noGains, unknownAt, tooLargeAt, refusalOf, planOf, planned};
 use gains::Coding;
 
 // The gains are Gk in bin order, count of them, then zeros. The total is 2 plus the payload.
@@ -326,21 +326,6 @@ fn refuse(n: u8) -> Planned
     }
 }
 
-fn bin_outside(x: &[f32], a: usize) -> bool
-    requires { ⌜ a + 6 ≤ length (now x) ⌝ }
-    ensures { λ r. ⌜ r ≡ someOver (tooLargeAt (now (x .entry))) a (a + 6) ⌝ }
-{
-    let mut i = a;
-    let end = a + 6;
-    while i < end {
-        if !levels::in_range(x[i]) {
-            return true;
-        }
-        i += 1;
-    }
-    false
-}
-
 fn any_unknown(row: &[u8], start: usize, end: usize) -> bool
     requires { ⌜ (start ≤ end) × (end ≤ length (now row)) ⌝ }
     ensures { λ r. ⌜ r ≡ someOver (unknownAt (now (row .entry))) start end ⌝ }
@@ -355,23 +340,25 @@ fn any_unknown(row: &[u8], start: usize, end: usize) -> bool
     false
 }
 
-fn outside_at(row: &[u8], x: &[f32], bin: usize) -> bool
+fn too_large_at(row: &[u8], x: &[f32], bin: usize) -> bool
     requires { ⌜ (bin < 256) × (bin < length (now row)) × (6 * bin + 6 ≤ length (now x)) ⌝ }
-    ensures { λ r. ⌜ r ≡ outsideAt (now (row .entry)) (now (x .entry)) bin ⌝ }
+    ensures { λ r. ⌜ r ≡ tooLargeAt (now (row .entry)) (now (x .entry)) bin ⌝ }
 {
     if row[bin] == 0 {
         return false;
     }
-    bin_outside(x, 6 * bin)
+    let a = 6 * bin;
+    let b = a + 6;
+    levels::any_too_large(&x[a..b])
 }
 
-fn any_outside(row: &[u8], start: usize, end: usize, x: &[f32]) -> bool
+fn any_too_large(row: &[u8], start: usize, end: usize, x: &[f32]) -> bool
     requires { ⌜ Within (now row) start end (now x) ⌝ }
-    ensures { λ r. ⌜ r ≡ someOver (outsideAt (now (row .entry)) (now (x .entry))) start end ⌝ }
+    ensures { λ r. ⌜ r ≡ someOver (tooLargeAt (now (row .entry)) (now (x .entry))) start end ⌝ }
 {
     let mut bin = start;
     while bin < end {
-        if outside_at(row, x, bin) {
+        if too_large_at(row, x, bin) {
             return true;
         }
         bin += 1;
@@ -398,7 +385,7 @@ pub fn plan_aht_channel(hebap: &[u8], start: usize, end: usize, x: &[f32]) -> Pl
     if any_unknown(hebap, start, end) {
         return refuse(4);
     }
-    if any_outside(hebap, start, end, x) {
+    if any_too_large(hebap, start, end, x) {
         return refuse(5);
     }
     let plan = plan_bins(hebap, start, end, x);

@@ -44,8 +44,8 @@ returns-5 c =
     let e = u .before in
     c .refuse5 .ensures ∙ planned-4 (s .hebap .now) (s .start) (s .end) (s .x .now) (e .before .before .before .if1 .left) (e .before .before .if2 .left) (e .before .if3 .left) (e .if4 .left) (sym (u .any-unknown .ensures) ∙ c .before .if5 .taken)
 
-any-outside-requires : tie.Need-any-outside-requires
-any-outside-requires c κs = search needs
+any-too-large-requires : tie.Need-any-too-large-requires
+any-too-large-requires c κs = search needs
 
 refuse-requires-6 : tie.Need-refuse-requires-6
 refuse-requires-6 c κs = search needs
@@ -55,7 +55,7 @@ returns-6 c =
     let s = c .before .before .before .before .before .before .before .before .before .before .before .args in let o = c .before .before in
     let u = o .before .before in
     let e = u .before in
-    c .refuse6 .ensures ∙ planned-5 (s .hebap .now) (s .start) (s .end) (s .x .now) (e .before .before .before .if1 .left) (e .before .before .if2 .left) (e .before .if3 .left) (e .if4 .left) (sym (u .any-unknown .ensures) ∙ o .before .if5 .left) (sym (o .any-outside .ensures) ∙ c .before .if6 .taken)
+    c .refuse6 .ensures ∙ planned-5 (s .hebap .now) (s .start) (s .end) (s .x .now) (e .before .before .before .if1 .left) (e .before .before .if2 .left) (e .before .if3 .left) (e .if4 .left) (sym (u .any-unknown .ensures) ∙ o .before .if5 .left) (sym (o .any-too-large .ensures) ∙ c .before .if6 .taken)
 
 plan-bins-requires : tie.Need-plan-bins-requires
 plan-bins-requires c κs = search needs
@@ -65,7 +65,7 @@ returns-7 c =
     let s = c .before .before .before .before .before .before .before .before .before .before .before .args in let o = c .before .before in
     let u = o .before .before in
     let e = u .before in
-    planned-good (s .hebap .now) (s .start) (s .end) (s .x .now) (e .before .before .before .if1 .left) (e .before .before .if2 .left) (e .before .if3 .left) (e .if4 .left) (c .plan-bins .result) (c .plan-bins .ensures) (sym (u .any-unknown .ensures) ∙ o .before .if5 .left) (sym (o .any-outside .ensures) ∙ c .before .if6 .left)
+    planned-good (s .hebap .now) (s .start) (s .end) (s .x .now) (e .before .before .before .if1 .left) (e .before .before .if2 .left) (e .before .if3 .left) (e .if4 .left) (c .plan-bins .result) (c .plan-bins .ensures) (sym (u .any-unknown .ensures) ∙ o .before .if5 .left) (sym (o .any-too-large .ensures) ∙ c .before .if6 .left)
 
 pub plan-aht-channel-spec : {M : Type 1} → statement M
 plan-aht-channel-spec =
@@ -83,7 +83,7 @@ plan-aht-channel-spec =
     any-unknown-requires
     refuse-requires-5
     returns-5
-    any-outside-requires
+    any-too-large-requires
     refuse-requires-6
     returns-6
     plan-bins-requires

@@ -1,0 +1,1 @@
+// Writing: the fields of plans, a code and a gain word at a time.
