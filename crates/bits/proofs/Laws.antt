@@ -357,6 +357,21 @@ pub length-with : (s : List ℕ) (at : ℕ) (new : List Bool) → length (bytesW
 unfolding bytesWith
 length-with s at new = length-bytesOf (length s) _
 
+-- nothing put in leaves bytes as they are; one part after another is both
+with-is : (s : List ℕ) (at : ℕ) (new : List Bool) → bytesWith s at new ≡ bytesOf (length s) (splice (bitsOf s) at new)
+unfolding bytesWith
+with-is s at new = refl
+
+pub with-none : (s : List ℕ) (at : ℕ) → Bytes s → bytesWith s at [] ≡ s
+with-none s at h = with-is s at [] ∙ rw (splice-none (bitsOf s) at) (bytes-bits s h)
+
+pub with-more : (s : List ℕ) (a b : List Bool) (at : ℕ) → at + (length a + length b) ≤ 8 * length s → bytesWith (bytesWith s at a) (at + length a) b ≡ bytesWith s at (a ++ b)
+with-more s a b at h =
+    let r : at + (length a + length b) ≤ length (bitsOf s) = rw length-bitsOf h in
+    with-is (bytesWith s at a) (at + length a) b
+    ∙ rw (length-with s at a, bits-with s at a (omega arith), splice-more (bitsOf s) a b at r) refl
+    ∙ sym (with-is s at (a ++ b))
+
 -- ---- what a write and a read have to do with each other
 module _ (s : List ℕ) (at v n : ℕ) (few : n ≤ 32) (room : at + n ≤ 8 * length s) where
   bits-written : bitsOf (written s at v n) ≡ splice (bitsOf s) at (bitsN n v)

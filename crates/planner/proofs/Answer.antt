@@ -1,17 +1,17 @@
 -- What the planner answers, case by case. Assumes nothing.
-use mathlib.Core.Path.{_≡_, refl, sym, ap, _∙_}
+use mathlib.Core.Path.{_≡_, refl, sym, ap, subst, _∙_}
 use mathlib.Core.Bool.{Bool, true, false, _||_, cond}
 use mathlib.Core.List.{List, _++_}
-use Prim.Native.Nat.{ℕ, suc, _+_, _*_, _≤_, _<_}
+use Prim.Native.Nat.{ℕ, zero, suc, _+_, _*_, _≤_, _<_}
 use native.Mathlib.Omega.{arith}
-use borrow.Author.Tests.{lt-ltb, le-ltb}
-use lib.Dec.{ltb}
+use borrow.Author.Tests.{lt-ltb, le-ltb, ltb-false, ne-eqb}
+use lib.Dec.{T, eqb, ltb}
 use lib.ListN.{length, take, drop, length-append}
 use lib.Ieee.{Float}
 use Rattle.planner.specs.Bins.{someOver}
 use Rattle.planner.specs.Choice.{planMode, planGains, planPayload, planBits, choiceBits, Choice, gainsOver}
-use Rattle.planner.specs.Work.{tallyOf, payloadIn, modeIn}
-use Rattle.planner.specs.Planning.{noGains, unknownAt, tooLargeAt, refusalOf, planOf, planned, totalOf}
+use Rattle.planner.specs.Work.{tallyOf, payloadIn, modeIn, Within}
+use Rattle.planner.specs.Planning.{noGains, unknownAt, tooLargeAt, refusalOf, planOf, causeOf, planned, totalOf}
 use Rattle.planner.specs.Fit.{planFits}
 use Rattle.planner.specs.declared.Plan.{Plan}
 use Rattle.planner.specs.declared.Planned.{Planned}
@@ -29,70 +29,97 @@ plan-is row x start end t m p n g z et em ep ez en eg =
     let p-is : p ≡ planPayload row x start end = plan-payload row x start end t m p et m-is ep in
     rw (eg, en, ez, p-is, m-is)
 
-or-false : (a b : Bool) → a ≡ false → b ≡ false → a || b ≡ false
-or-false a b p q = ap (λ (t : Bool). t || b) p ∙ q
-
+-- ---- the cause
 module _ (row : List ℕ) (start end : ℕ) (x : List Float) where
-  pub planned-1 : end < start → refusalOf 1 ≡ planned row start end x
-  unfolding planned
-  planned-1 h = sym (rw (lt-ltb end start h))
+  pub cause-1 : end < start → 1 ≡ causeOf row start end x
+  unfolding causeOf
+  cause-1 h = sym (rw (lt-ltb end start h))
 
-  pub planned-2 : start ≤ end → 256 < end → refusalOf 2 ≡ planned row start end x
-  unfolding planned
-  planned-2 a h = sym (rw (le-ltb end start a, lt-ltb 256 end h))
+  pub cause-2 : start ≤ end → 256 < end → 2 ≡ causeOf row start end x
+  unfolding causeOf
+  cause-2 a h = sym (rw (le-ltb end start a, lt-ltb 256 end h))
 
-  pub planned-3-row : start ≤ end → end ≤ 256 → length row < end → refusalOf 3 ≡ planned row start end x
-  unfolding planned
-  planned-3-row a b h = sym (rw (le-ltb end start a, le-ltb 256 end b, lt-ltb (length row) end h))
+  pub cause-3-row : start ≤ end → end ≤ 256 → length row < end → 3 ≡ causeOf row start end x
+  unfolding causeOf
+  cause-3-row a b h = sym (rw (le-ltb end start a, le-ltb 256 end b, lt-ltb (length row) end h))
 
-  pub planned-3-vectors : start ≤ end → end ≤ 256 → end ≤ length row → length x < 6 * end → refusalOf 3 ≡ planned row start end x
-  unfolding planned
-  planned-3-vectors a b c h = sym (rw (le-ltb end start a, le-ltb 256 end b, le-ltb (length row) end c, lt-ltb (length x) (6 * end) h))
+  pub cause-3-vectors : start ≤ end → end ≤ 256 → end ≤ length row → length x < 6 * end → 3 ≡ causeOf row start end x
+  unfolding causeOf
+  cause-3-vectors a b c h = sym (rw (le-ltb end start a, le-ltb 256 end b, le-ltb (length row) end c, lt-ltb (length x) (6 * end) h))
 
   module _ (a : start ≤ end) (b : end ≤ 256) (c : end ≤ length row) (d : 6 * end ≤ length x) where
-    pub planned-4 : someOver (unknownAt row) start end ≡ true → refusalOf 4 ≡ planned row start end x
-    unfolding planned
-    planned-4 h = sym (rw (le-ltb end start a, le-ltb 256 end b, le-ltb (length row) end c, le-ltb (length x) (6 * end) d, h))
+    pub cause-4 : someOver (unknownAt row) start end ≡ true → 4 ≡ causeOf row start end x
+    unfolding causeOf
+    cause-4 h = sym (rw (le-ltb end start a, le-ltb 256 end b, le-ltb (length row) end c, le-ltb (length x) (6 * end) d, h))
 
-    pub planned-5 : someOver (unknownAt row) start end ≡ false → someOver (tooLargeAt row x) start end ≡ true → refusalOf 5 ≡ planned row start end x
-    unfolding planned
-    planned-5 h k = sym (rw (le-ltb end start a, le-ltb 256 end b, le-ltb (length row) end c, le-ltb (length x) (6 * end) d, h, k))
+    pub cause-5 : someOver (unknownAt row) start end ≡ false → someOver (tooLargeAt row x) start end ≡ true → 5 ≡ causeOf row start end x
+    unfolding causeOf
+    cause-5 h k = sym (rw (le-ltb end start a, le-ltb 256 end b, le-ltb (length row) end c, le-ltb (length x) (6 * end) d, h, k))
 
-    pub planned-good : (p : Plan) → p ≡ planOf row x start end → someOver (unknownAt row) start end ≡ false → someOver (tooLargeAt row x) start end ≡ false
-        → _≡_ {A = Planned} (record { refusal = 0; plan = p }) (planned row start end x)
-    unfolding planned
-    planned-good p e h k =
-        ap (λ (z : Plan). record { refusal = 0; plan = z }) e ∙ sym (rw (le-ltb end start a, le-ltb 256 end b, le-ltb (length row) end c, le-ltb (length x) (6 * end) d, h, k))
+    pub cause-0 : someOver (unknownAt row) start end ≡ false → someOver (tooLargeAt row x) start end ≡ false → 0 ≡ causeOf row start end x
+    unfolding causeOf
+    cause-0 h k = sym (rw (le-ltb end start a, le-ltb 256 end b, le-ltb (length row) end c, le-ltb (length x) (6 * end) d, h, k))
 
-    -- Where none of causes 1 to 5 holds a plan is given.
-    pub answer-given : someOver (unknownAt row) start end ≡ false → someOver (tooLargeAt row x) start end ≡ false → planned row start end x .refusal ≡ 0
-    answer-given h k = sym (ap (λ (r : Planned). r .refusal) (planned-good (planOf row x start end) refl h k))
+or-none : (a b : Bool) → a || b ≡ false → (a ≡ false) × (b ≡ false)
+or-none true b h = absurd (subst T h tt)
+or-none false b h = (refl, h)
 
--- ---- an answer that is no refusal
-not-refused : (t : Bool) (n : ℕ) (b : Planned) → cond t (refusalOf (suc n)) b .refusal ≡ 0 → cond t (refusalOf (suc n)) b ≡ b
+none-of : (t : Bool) (n b : ℕ) → cond t (suc n) b ≡ 0 → (t ≡ false) × (b ≡ 0)
+none-of true n b h = absurd (let z : suc n ≡ 0 = h in omega arith)
+none-of false n b h = (refl, h)
+
+-- Where the cause is 0, none of the five holds.
+pub cause-none : (row : List ℕ) (start end : ℕ) (x : List Float) → causeOf row start end x ≡ 0
+    → Within row start end x × (someOver (unknownAt row) start end ≡ false) × (someOver (tooLargeAt row x) start end ≡ false)
+unfolding causeOf
+cause-none row start end x h =
+    let r5 : ℕ = cond (someOver (tooLargeAt row x) start end) 5 0 in
+    let r4 : ℕ = cond (someOver (unknownAt row) start end) 4 r5 in
+    let r3 : ℕ = cond (ltb (length row) end || ltb (length x) (6 * end)) 3 r4 in
+    let n1 = none-of (ltb end start) 0 (cond (ltb 256 end) 2 r3) h in
+    let n2 = none-of (ltb 256 end) 1 r3 (n1 .1) in
+    let n3 = none-of (ltb (length row) end || ltb (length x) (6 * end)) 2 r4 (n2 .1) in
+    let n4 = none-of (someOver (unknownAt row) start end) 3 r5 (n3 .1) in
+    let n5 = none-of (someOver (tooLargeAt row x) start end) 4 0 (n4 .1) in
+    let s = or-none (ltb (length row) end) (ltb (length x) (6 * end)) (n3 .0) in (
+      record {
+        bins = ltb-false end start (n1 .0);
+        few = ltb-false 256 end (n2 .0);
+        rows = ltb-false (length row) end (s .0);
+        vectors = ltb-false (length x) (6 * end) (s .1);
+      },
+      n4 .0,
+      n5 .0,
+    )
+
+-- ---- the answer
+number-is : (k : ℕ) (p : Plan) → cond (eqb k 0) (record { refusal = 0; plan = p }) (refusalOf k) .refusal ≡ k
 unfolding refusalOf
-not-refused true n b h = absurd (let z : suc n ≡ 0 = h in omega arith)
-not-refused false n b h = refl
+number-is zero p = refl
+number-is (suc k) p = rw (ne-eqb (suc k) 0 (λ (e : suc k ≡ 0). omega arith))
 
--- is the plan,
-pub answer-plan : (row : List ℕ) (start end : ℕ) (x : List Float) → planned row start end x .refusal ≡ 0 → planned row start end x .plan ≡ planOf row x start end
-unfolding planned
-answer-plan row start end x h =
-    let r6 : Planned = record { refusal = 0; plan = planOf row x start end } in
-    let r5 = cond (someOver (tooLargeAt row x) start end) (refusalOf 5) r6 in
-    let r4 = cond (someOver (unknownAt row) start end) (refusalOf 4) r5 in
-    let r3 = cond (ltb (length row) end || ltb (length x) (6 * end)) (refusalOf 3) r4 in
-    let r2 = cond (ltb 256 end) (refusalOf 2) r3 in
-    let number : Planned → ℕ = λ p. p .refusal in
-    let e1 = not-refused (ltb end start) 0 r2 h in
-    let h2 : r2 .refusal ≡ 0 = ap number (sym e1) ∙ h in
-    let e2 = not-refused (ltb 256 end) 1 r3 h2 in
-    let h3 : r3 .refusal ≡ 0 = ap number (sym e2) ∙ h2 in
-    let e3 = not-refused (ltb (length row) end || ltb (length x) (6 * end)) 2 r4 h3 in
-    let h4 : r4 .refusal ≡ 0 = ap number (sym e3) ∙ h3 in
-    let e4 = not-refused (someOver (unknownAt row) start end) 3 r5 h4 in
-    let h5 : r5 .refusal ≡ 0 = ap number (sym e4) ∙ h4 in
-    ap (λ (p : Planned). p .plan) (e1 ∙ e2 ∙ e3 ∙ e4 ∙ not-refused (someOver (tooLargeAt row x) start end) 4 r6 h5)
+module _ (row : List ℕ) (start end : ℕ) (x : List Float) where
+  pub planned-good : (p : Plan) → p ≡ planOf row x start end → causeOf row start end x ≡ 0 → _≡_ {A = Planned} (record { refusal = 0; plan = p }) (planned row start end x)
+  unfolding planned
+  planned-good p e h = ap (λ (z : Plan). record { refusal = 0; plan = z }) e ∙ sym (rw h)
+
+  pub planned-refused : (k : ℕ) → k ≡ causeOf row start end x → (k ≡ 0 → ⊥) → refusalOf k ≡ planned row start end x
+  unfolding planned
+  planned-refused k e n = rw (sym e, ne-eqb k 0 n)
+
+  -- The refusal is the cause.
+  pub refusal-is : planned row start end x .refusal ≡ causeOf row start end x
+  unfolding planned
+  refusal-is = number-is (causeOf row start end x) (planOf row x start end)
+
+  -- Where none of causes 1 to 5 holds a plan is given.
+  pub answer-given : start ≤ end → end ≤ 256 → end ≤ length row → 6 * end ≤ length x
+      → someOver (unknownAt row) start end ≡ false → someOver (tooLargeAt row x) start end ≡ false → planned row start end x .refusal ≡ 0
+  answer-given a b c d h k = refusal-is ∙ sym (cause-0 row start end x a b c d h k)
+
+  -- ---- an answer that is no refusal is the plan,
+  pub answer-plan : planned row start end x .refusal ≡ 0 → planned row start end x .plan ≡ planOf row x start end
+  answer-plan h = sym (ap (λ (r : Planned). r .plan) (planned-good (planOf row x start end) refl (sym refusal-is ∙ h)))
 
 module _ (row : List ℕ) (start end : ℕ) (x : List Float) (h : planned row start end x .refusal ≡ 0) where
   -- it fits,

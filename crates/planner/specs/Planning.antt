@@ -43,11 +43,15 @@ planOf row x start end = record {
 abbrev pub totalOf : Plan → ℕ
 totalOf p = 2 + p .payload
 
--- 1 to 5, the lowest that holds
+-- causes 1 to 5: the lowest that holds, 0 where none does
+unfoldable pub causeOf : List ℕ → ℕ → ℕ → List Float → ℕ
+causeOf row start end x =
+    cond (ltb end start) 1
+    (cond (ltb 256 end) 2
+    (cond (ltb (length row) end || ltb (length x) (6 * end)) 3
+    (cond (someOver (unknownAt row) start end) 4
+    (cond (someOver (tooLargeAt row x) start end) 5 0))))
+
 unfoldable pub planned : List ℕ → ℕ → ℕ → List Float → Planned
 planned row start end x =
-    cond (ltb end start) (refusalOf 1)
-    (cond (ltb 256 end) (refusalOf 2)
-    (cond (ltb (length row) end || ltb (length x) (6 * end)) (refusalOf 3)
-    (cond (someOver (unknownAt row) start end) (refusalOf 4)
-    (cond (someOver (tooLargeAt row x) start end) (refusalOf 5) (record { refusal = 0; plan = planOf row x start end })))))
+    cond (eqb (causeOf row start end x) 0) (record { refusal = 0; plan = planOf row x start end }) (refusalOf (causeOf row start end x))

@@ -9,7 +9,7 @@ ghost use Rattle.planner.specs.Bins.{sumOver, someOver};
 ghost use Rattle.planner.specs.Choice.{cheaper, gainsOver, activeCount, chosenAt};
 ghost use Rattle.planner.specs.Fit.{wrongGain, planFits};
 ghost use Rattle.planner.specs.Work.{sizeOf, limitsOf, bitsBySize, costsOf, costIn, gainIn, codedBits, leastIn, tallyOf, withBin, payloadIn, modeIn, Bounded, Within};
-ghost use Rattle.planner.specs.Planning.{noGains, unknownAt, tooLargeAt, refusalOf, planOf, planned};
+ghost use Rattle.planner.specs.Planning.{noGains, unknownAt, tooLargeAt, refusalOf, planOf, causeOf, planned};
 use gains::Coding;
 
 // The gains are Gk in bin order, count of them, then zeros. The total is 2 plus the payload.
@@ -366,30 +366,41 @@ fn any_too_large(row: &[u8], start: usize, end: usize, x: &[f32]) -> bool
     false
 }
 
+// The lowest of causes 1 to 5 that holds, 0 where none does.
+pub fn cause(hebap: &[u8], start: usize, end: usize, x: &[f32]) -> u8
+    ensures { λ r. ⌜ r ≡ causeOf (now (hebap .entry)) start end (now (x .entry)) ⌝ }
+{
+    if end < start {
+        return 1;
+    }
+    if 256 < end {
+        return 2;
+    }
+    if hebap.len() < end {
+        return 3;
+    }
+    if x.len() < 6 * end {
+        return 3;
+    }
+    if any_unknown(hebap, start, end) {
+        return 4;
+    }
+    if any_too_large(hebap, start, end, x) {
+        return 5;
+    }
+    0
+}
+
 // The plan of the bins start to end - 1, where hebap is the row and x the vectors. Refuses with 1 to 5.
 pub fn plan_aht_channel(hebap: &[u8], start: usize, end: usize, x: &[f32]) -> Planned
     ensures { λ r. ⌜ r ≡ planned (now (hebap .entry)) start end (now (x .entry)) ⌝ }
 {
-    if end < start {
-        return refuse(1);
+    let k = cause(hebap, start, end, x);
+    if k == 0 {
+        let plan = plan_bins(hebap, start, end, x);
+        return Planned { refusal: 0, plan };
     }
-    if 256 < end {
-        return refuse(2);
-    }
-    if hebap.len() < end {
-        return refuse(3);
-    }
-    if x.len() < 6 * end {
-        return refuse(3);
-    }
-    if any_unknown(hebap, start, end) {
-        return refuse(4);
-    }
-    if any_too_large(hebap, start, end, x) {
-        return refuse(5);
-    }
-    let plan = plan_bins(hebap, start, end, x);
-    Planned { refusal: 0, plan }
+    refuse(k)
 }
 
 fn any_wrong(mode: u8, gains: &[u8], count: usize) -> bool

@@ -318,7 +318,8 @@ fn pick_tagged(hebap: u8, gk: u8, n: u32, b: u32, l: u32, x: f32) -> CodeLevel
     pick_large(hebap, gk, l, x)
 }
 
-fn pick(hebap: u8, gk: u8, x: f32) -> CodeLevel
+// The code for x and its level, where the hebap is 8 to 19.
+pub fn pick(hebap: u8, gk: u8, x: f32) -> CodeLevel
     requires { ⌜ (8 ≤ hebap) × (hebap ≤ 19) ⌝ }
     ensures { λ r. ⌜ r ≡ codeLevel (picked hebap gk x) ⌝ }
 {

@@ -38,7 +38,7 @@ use Rattle.writer.proofs.Runs.{sum-first, none-there, part-first, none-
 use Rattle.writer.proofs.Allowed.{gains-ok}
 
 -- ---- a bin's item is one of its format
-codes-ok : (h g : ℕ) → 8 ≤ h → h ≤ 19 → (n : ℕ) (v : List Float) → length v ≡ n → each-Ok (λ (k : ℕ). coded (mantBits h) g) (replicate n 0) (codesOf h g v)
+pub codes-ok : (h g : ℕ) → 8 ≤ h → h ≤ 19 → (n : ℕ) (v : List Float) → length v ≡ n → each-Ok (λ (k : ℕ). coded (mantBits h) g) (replicate n 0) (codesOf h g v)
 unfolding each-Ok
 codes-ok h g l u zero [] e = tt
 codes-ok h g l u zero (y ∷ v) e = absurd (omega arith)
@@ -50,7 +50,7 @@ unfolding number
 item-ok mode h g v six fine =
     by-bin (λ b. item b .Ok (itemOf b v)) mode h g refl (λ l u. (search-first h v l u six (fine l) .there, refl)) (λ g a. (codes-ok h g (a .0) (a .1) 6 v six, refl))
 
-six-long : (x : List Float) (k : ℕ) → 6 * k + 6 ≤ length x → length (sixOf x k) ≡ 6
+pub six-long : (x : List Float) (k : ℕ) → 6 * k + 6 ≤ length x → length (sixOf x k) ≡ 6
 six-long x k l = length-take-le 6 (drop (6 * k) x) (rw length-drop (omega arith))
 
 six-fine : (row : List ℕ) (x : List Float) (k : ℕ) → 6 * k + 6 ≤ length x → tooLargeAt row x k ≡ false → 1 ≤ getD row k 0 → someTooLarge (sixOf x k) ≡ false

@@ -1,3 +1,9 @@
 pub mod Runs
 pub mod Allowed
 pub mod Channel
+pub mod Turns
+pub mod Six
+pub mod GainBits
+pub mod Words
+pub mod Items
+pub mod Bins

@@ -4,15 +4,15 @@ use mathlib.Core.Path.{_≡_, refl, sym, ap, _∙_}
 use mathlib.Core.List.{List, [], _∷_, _++_}
 use mathlib.Core.Bool.{Bool, true, false, cond, true≢false, _||_}
 use native.Mathlib.Omega.{arith}
-use lib.ListN.{length, getD, take, drop, length-drop}
-use lib.Seq.{drop-cons, take-suc, getD-drop}
-use lib.Ieee.{Float, nan}
+use lib.ListN.{length, getD, take, drop}
+use lib.Seq.{drop-cons}
+use lib.Ieee.{Float}
 use Rattle.gains.specs.Gains.{active}
 use Rattle.levels.specs.Component.{tooLarge, someTooLarge}
 use Rattle.field.specs.Field.{activeBins}
 use Rattle.planner.specs.Bins.{sumOver, someOver}
 use Rattle.planner.specs.Choice.{activeAt, activeCount}
-use Rattle.planner.proofs.Over.{sum-none, sum-next, some-none, some-next, some-found}
+use Rattle.planner.proofs.Over.{sum-none, sum-next, some-found}
 use Rattle.writer.specs.Written.{partOf}
 
 -- ---- places
