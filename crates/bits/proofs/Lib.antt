@@ -3,3 +3,4 @@ pub mod Lawful
 pub mod Faithful
 pub mod Sized
 pub mod Reading
+pub mod Copying

@@ -2,26 +2,19 @@
 use Prim.Native.Nat.{ℕ, zero, suc, _+_, _*_, _^_, _≤_, _<_}
 use mathlib.Core.Path.{_≡_, refl, sym, _∙_}
 use mathlib.Core.Bool.{Bool, true, false, cond, _&&_}
-use mathlib.Core.List.{List, [], _∷_, _++_, append-assoc}
+use mathlib.Core.List.{List, _++_}
 use mathlib.Core.Logic.{_⊎_, inl, inr}
-use native.Mathlib.Nat.{le-of-lt}
-use native.Mathlib.Numerals.{add-one}
 use native.Mathlib.Omega.{arith}
 use lib.Dec.{leb}
 use lib.IntN.{ℤ, pos}
 use lib.Pow.{pow-pos, pow-mono}
 use lib.Ieee.{Float, inf, lt}
-use lib.ListN.{length, take, drop, getD, set, List·getD-append, length-append}
-use lib.Seq.{take-all, take-suc, drop-cons, set-at, length-take-le}
+use lib.ListN.{length, take, drop, List·getD-append, length-append}
+use lib.Seq.{take-all}
 use borrow.Author.Tests.{lt-leb, leb-true}
 use Rattle.tables.specs.Tables.{book, vqBits}
 use Rattle.tables.proofs.Rules.{book-none, book-size, vq-most}
 use Rattle.books.specs.Books.{hasBook, vectorsOf, sumTo, distanceOf, searchFrom, nearestIn, sixAt}
-
-pub copy-turn : {A : Type 0} (b o : List A) (i : ℕ) (d : A) → i < length b → i < length o → set (take i b ++ drop i o) i (getD b i d) ≡ take (i + 1) b ++ drop (i + 1) o
-copy-turn b o i d h k =
-    rw (drop-cons o i d k, set-at (take i b) (getD o i d) (drop (suc i) o) (getD b i d) i (length-take-le i b (le-of-lt h)), add-one, take-suc b i d h)
-    (sym (append-assoc (take i b) (getD b i d ∷ []) (drop (suc i) o)))
 
 pub copy-end : {A : Type 0} (b o : List A) (i : ℕ) → i ≡ length b → take i b ++ drop i o ≡ b ++ drop (length b) o
 copy-end b o i e = let h : length b ≤ i = omega arith in rw (take-all i b h, e)

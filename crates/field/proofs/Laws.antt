@@ -14,7 +14,7 @@ use Rattle.tables.specs.Tables.{mantBits, vqBits}
 use Rattle.gains.specs.Gains.{gainValue}
 use Rattle.levels.specs.Codes.{coded, six}
 use Rattle.levels.proofs.CodeLaws.{coded-lawful}
-use Rattle.field.specs.Field.{gainCode, gainBit, groupWord, first, second, third, packed, groupWords, gainWords, Bin, none, book, scalar, nothing, index, codes, ofIndex, ofCodes, item, activeBins, binsOf, field}
+use Rattle.field.specs.Field.{oneGain, twoGains, gainCode, gainBit, groupWord, first, second, third, packed, groupWords, gainWords, Bin, none, book, scalar, nothing, index, codes, ofIndex, ofCodes, item, activeBins, binsOf, field}
 
 -- ---- gain words
 bit-kept : (mode : ℕ) → (mode ≡ 1) ⊎ (mode ≡ 2) → (c : ℕ) → c < 2 ^ 1 → gainCode (gainValue c mode) mode ≡ c
@@ -42,13 +42,13 @@ code-kept (suc (suc (suc c))) h = absurd (omega arith)
 three-codes : (w : ℕ) → T (leb w 26) → (w / 9 ≤ 2) × (w % 9 / 3 ≤ 2) × (w % 3 ≤ 2)
 three-codes w t = let h = leb→le w 26 t in (omega arith, omega arith, omega arith)
 
-one-kept : (w : ℕ) → tested groupWord (λ w. eqb (w % 9) 0) 10 .Ok w → packed (first w ∷ []) ≡ w
+one-kept : (w : ℕ) → tested groupWord oneGain 10 .Ok w → packed (first w ∷ []) ≡ w
 one-kept w h =
     let s = three-codes w (h .0 .1) in
     let z : w % 9 ≡ 0 = eqb→eq _ _ (h .1) in
     rw (code-kept (w / 9) (s .0)) (omega arith)
 
-two-kept : (w : ℕ) → tested groupWord (λ w. eqb (w % 3) 0) 10 .Ok w → packed (first w ∷ second w ∷ []) ≡ w
+two-kept : (w : ℕ) → tested groupWord twoGains 10 .Ok w → packed (first w ∷ second w ∷ []) ≡ w
 two-kept w h =
     let s = three-codes w (h .0 .1) in
     let z : w % 3 ≡ 0 = eqb→eq _ _ (h .1) in
@@ -63,11 +63,11 @@ pub groupWords-lawful : (n : ℕ) → Lawful (groupWords n)
 unfolding groupWords
 groupWords-lawful zero = only-lawful []
 groupWords-lawful (suc zero) =
-    shown-lawful (tested groupWord (λ w. eqb (w % 9) 0) 10) (λ w. first w ∷ []) packed
-    (tested-lawful groupWord (λ w. eqb (w % 9) 0) 10 groupWord-lawful) one-kept
+    shown-lawful (tested groupWord oneGain 10) (λ w. first w ∷ []) packed
+    (tested-lawful groupWord oneGain 10 groupWord-lawful) one-kept
 groupWords-lawful (suc (suc zero)) =
-    shown-lawful (tested groupWord (λ w. eqb (w % 3) 0) 10) (λ w. first w ∷ second w ∷ []) packed
-    (tested-lawful groupWord (λ w. eqb (w % 3) 0) 10 groupWord-lawful) two-kept
+    shown-lawful (tested groupWord twoGains 10) (λ w. first w ∷ second w ∷ []) packed
+    (tested-lawful groupWord twoGains 10 groupWord-lawful) two-kept
 groupWords-lawful (suc (suc (suc n))) =
     shown-lawful (both groupWord (λ w. groupWords n)) (λ p. first (p .0) ∷ second (p .0) ∷ third (p .0) ∷ p .1) (λ gs. (packed gs, drop 3 gs))
     (both-lawful groupWord (λ w. groupWords n) groupWord-lawful (λ w. groupWords-lawful n))

@@ -1,7 +1,7 @@
 -- The field of a channel: two bits of mode, gain words, then the bins in rising order. ATSC A/52 Annex E, 3.4; document 01, Writer and
 -- Channel reader. The row here has the hebaps of the bins start to end - 1.
 use Prim.Native.Nat.{ℕ, zero, suc, _+_, _*_, _/_, _%_}
-use mathlib.Core.Bool.{cond, _||_}
+use mathlib.Core.Bool.{Bool, cond, _||_}
 use mathlib.Core.List.{List, [], _∷_}
 use lib.Dec.{eqb, leb}
 use lib.ListN.{drop, replicate}
@@ -41,11 +41,18 @@ packed (a ∷ []) = 9 * gainCode a 3
 packed (a ∷ b ∷ []) = 9 * gainCode a 3 + 3 * gainCode b 3
 packed (a ∷ b ∷ c ∷ gs) = 9 * gainCode a 3 + 3 * gainCode b 3 + gainCode c 3
 
+-- the word of one gain, and of two: the missing codes are 0
+abbrev pub oneGain : ℕ → Bool
+oneGain w = eqb (w % 9) 0
+
+abbrev pub twoGains : ℕ → Bool
+twoGains w = eqb (w % 3) 0
+
 -- n gains in words of three; 10 where a missing code is not 0
 unfoldable pub groupWords : ℕ → Format (List ℕ)
 groupWords zero = only []
-groupWords (suc zero) = shown (tested groupWord (λ w. eqb (w % 9) 0) 10) (λ w. first w ∷ []) packed
-groupWords (suc (suc zero)) = shown (tested groupWord (λ w. eqb (w % 3) 0) 10) (λ w. first w ∷ second w ∷ []) packed
+groupWords (suc zero) = shown (tested groupWord oneGain 10) (λ w. first w ∷ []) packed
+groupWords (suc (suc zero)) = shown (tested groupWord twoGains 10) (λ w. first w ∷ second w ∷ []) packed
 groupWords (suc (suc (suc n))) =
     shown (both groupWord (λ w. groupWords n)) (λ p. first (p .0) ∷ second (p .0) ∷ third (p .0) ∷ p .1) (λ gs. (packed gs, drop 3 gs))
 

@@ -1,17 +1,15 @@
 -- The gain of a bin, the scalar reader by its cases, and the turn of a copying loop. Assumes nothing.
-use Prim.Native.Nat.{ℕ, suc, _+_, _*_, _≤_, _<_}
+use Prim.Native.Nat.{ℕ, _+_, _*_, _≤_, _<_}
 use mathlib.Core.Path.{_≡_, refl, sym, ap, _∙_}
 use mathlib.Core.Bool.{Bool}
-use mathlib.Core.List.{List, [], _∷_, _++_, append-assoc, append-nil}
-use native.Mathlib.Nat.{le-of-lt}
-use native.Mathlib.Numerals.{add-one}
+use mathlib.Core.List.{List, _++_, append-nil}
 use native.Mathlib.Omega.{arith}
 use lib.IntN.{ℤ, pos, negsuc}
 use mir.Syntax.{w8}
 use mir.Val.{SFits, toZ, ofZ}
 use mir.ValLaws.{toZ-ofZ}
-use lib.ListN.{length, take, drop, getD, set, replicate, drop-of-length-le}
-use lib.Seq.{take-all, take-suc, drop-cons, set-at, length-take-le}
+use lib.ListN.{length, take, drop, replicate, drop-of-length-le}
+use lib.Seq.{take-all}
 use borrow.Author.Tests.{ne-eqb, le-leb, lt-leb}
 use Rattle.bits.specs.Bits.{bitsOf}
 use Rattle.bits.specs.Format.{got, refused}
@@ -57,10 +55,5 @@ unfolding binRead
 bin-values h g bs k = rw (lt-leb h 7 k)
 
 -- ---- copying
-pub copy-turn : {A : Type 0} (b o : List A) (i : ℕ) (d : A) → i < length b → i < length o → set (take i b ++ drop i o) i (getD b i d) ≡ take (i + 1) b ++ drop (i + 1) o
-copy-turn b o i d h k =
-    rw (drop-cons o i d k, set-at (take i b) (getD o i d) (drop (suc i) o) (getD b i d) i (length-take-le i b (le-of-lt h)), add-one, take-suc b i d h)
-    (sym (append-assoc (take i b) (getD b i d ∷ []) (drop (suc i) o)))
-
 pub copy-end : {A : Type 0} (b o : List A) (i : ℕ) → length b ≤ i → length o ≤ i → take i b ++ drop i o ≡ b
 copy-end b o i h k = rw (take-all i b h, drop-of-length-le o k, append-nil)

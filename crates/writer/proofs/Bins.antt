@@ -5,7 +5,6 @@ use mathlib.Core.Bool.{Bool, true, false, cond}
 use mathlib.Core.List.{List, [], _++_}
 use native.Mathlib.Nat.{one-mul}
 use native.Mathlib.Omega.{arith}
-use borrow.Author.Tests.{ltb-false}
 use lib.ListN.{length, getD, take, drop, length-append}
 use lib.Seq.{drop-drop}
 use lib.Ieee.{Float}
@@ -19,10 +18,8 @@ use Rattle.books.specs.Books.{searchOf}
 use Rattle.field.specs.Field.{groupWords, gainWords, scalar, codes, item, itemBits, binOf, headOr1, binsOf}
 use Rattle.field.proofs.Bits.{item-sized}
 use Rattle.field.proofs.Same.{by-bin}
-use Rattle.planner.specs.Bins.{someOver}
-use Rattle.planner.specs.Planning.{unknownAt}
 use Rattle.writer.specs.Written.{sixOf, codesOf, itemOf, itemsFrom}
-use Rattle.writer.proofs.Runs.{none-there, part-first}
+use Rattle.writer.proofs.Runs.{part-first}
 use Rattle.writer.proofs.Channel.{codes-ok, six-long}
 
 -- ---- gain words
@@ -101,10 +98,6 @@ module _ (mode : ℕ) (row : List ℕ) (x : List Float) where
   pub bins-end : (end k : ℕ) (gs : List ℕ) → end ≤ k → binsBits mode (take (end - k) (drop k row)) gs x k ≡ []
   unfolding binsOf itemsFrom each-enc
   bins-end end k gs h = let z : end - k ≡ 0 = omega arith in rw z
-
-pub known-hebap : (row : List ℕ) (start end k : ℕ) → someOver (unknownAt row) start end ≡ false → start ≤ k → k < end → getD row k 0 ≤ 19
-unfolding unknownAt
-known-hebap row start end k o l u = ltb-false 19 (getD row k 0) (none-there (unknownAt row) start end o k l u)
 
 pub part-six : (x : List Float) (k : ℕ) → take (6 * k + 6 - 6 * k) (drop (6 * k) x) ≡ sixOf x k
 part-six x k = let e : 6 * k + 6 - 6 * k ≡ 6 = omega arith in ap (λ (t : ℕ). take t (drop (6 * k) x)) e

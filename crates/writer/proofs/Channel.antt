@@ -8,7 +8,7 @@ use lib.ListN.{length, getD, take, drop, replicate, length-drop}
 use lib.Seq.{length-take-le, drop-cons, drop-drop}
 use lib.Dec.{leb, eqb}
 use lib.Ieee.{Float}
-use borrow.Author.Tests.{le-leb, ne-eqb, ltb-false}
+use borrow.Author.Tests.{le-leb, ne-eqb}
 use Rattle.bits.specs.Bits.{bitsOf, splice}
 use Rattle.bits.specs.Format.{got, number, each-Ok, sizes}
 use Rattle.bits.proofs.Laws.{length-bitsOf}
@@ -34,7 +34,7 @@ use Rattle.planner.proofs.Over.{sum-none, sum-next}
 use Rattle.planner.proofs.Optimal.{rank-lt}
 use Rattle.planner.proofs.Codes.{six-codes}
 use Rattle.writer.specs.Written.{partOf, sixOf, codesOf, itemOf, itemsFrom, channelOf}
-use Rattle.writer.proofs.Runs.{sum-first, none-there, part-first, none-active, active-part}
+use Rattle.writer.proofs.Runs.{sum-first, none-there, part-first, none-active, active-part, known-hebap}
 use Rattle.writer.proofs.Allowed.{gains-ok}
 
 -- ---- a bin's item is one of its format
@@ -120,15 +120,11 @@ module _ (mode : ℕ) (gains row : List ℕ) (x : List Float) (start end : ℕ) 
       go true = drop-drop 1 (rank k) gains
       go false = let z : rank k ≡ rank k + 0 = omega arith in ap (λ (r : ℕ). drop r gains) z
 
-  known-hebap : (k : ℕ) → start ≤ k → k < end → getD row k 0 ≤ 19
-  unfolding unknownAt
-  known-hebap k l u = ltb-false 19 (getD row k 0) (none-there (unknownAt row) start end known k l u)
-
   first-bits : (k : ℕ) → start ≤ k → k < end → let b = binOf mode (getD row k 0) (headOr1 (drop (rank k) gains)) in
       itemBits b (itemOf b (sixOf x k)) ≡ chosenAt mode gains row x start k
   unfolding chosenAt
   first-bits k l u =
-      bin-bits mode (getD row k 0) (headOr1 (drop (rank k) gains)) x k (known-hebap k l u) (omega arith) ∙ ap (binBits (getD row k 0) x (6 * k)) (own-gain k l u)
+      bin-bits mode (getD row k 0) (headOr1 (drop (rank k) gains)) x k (known-hebap row start end k known l u) (omega arith) ∙ ap (binBits (getD row k 0) x (6 * k)) (own-gain k l u)
 
   items-bits : (n k : ℕ) → start ≤ k → k + n ≤ end → bitsFrom mode (take n (drop k row)) (drop (rank k) gains) x k ≡ sumOver (chosenAt mode gains row x start) k (k + n)
   unfolding binsOf itemsFrom

@@ -10,7 +10,9 @@ use lib.Ieee.{Float}
 use Rattle.gains.specs.Gains.{active}
 use Rattle.levels.specs.Component.{tooLarge, someTooLarge}
 use Rattle.field.specs.Field.{activeBins}
+use borrow.Author.Tests.{ltb-false}
 use Rattle.planner.specs.Bins.{sumOver, someOver}
+use Rattle.planner.specs.Planning.{unknownAt}
 use Rattle.planner.specs.Choice.{activeAt, activeCount}
 use Rattle.planner.proofs.Over.{sum-none, sum-next, some-found}
 use Rattle.writer.specs.Written.{partOf}
@@ -76,3 +78,8 @@ large-last (x ∷ xs) y = ap (λ (t : Bool). tooLarge x || t) (large-last xs y) 
     or-assoc : (a b c : Bool) → a || (b || c) ≡ (a || b) || c
     or-assoc true b c = refl
     or-assoc false b c = refl
+
+-- no hebap is above 19 where cause 4 does not hold
+pub known-hebap : (row : List ℕ) (start end k : ℕ) → someOver (unknownAt row) start end ≡ false → start ≤ k → k < end → getD row k 0 ≤ 19
+unfolding unknownAt
+known-hebap row start end k o l u = ltb-false 19 (getD row k 0) (none-there (unknownAt row) start end o k l u)

@@ -8,7 +8,8 @@ use lib.ListN.{length, take, drop, getD, length-set}
 use mir.Syntax.{w16}
 use mir.Val.{SFits}
 use mir.ValLaws.{toZ-ofZ}
-use Rattle.books.proofs.Laws.{copy-turn, copy-end}
+use Rattle.bits.proofs.Copying.{copy-turn}
+use Rattle.books.proofs.Laws.{copy-end}
 use native.Mathlib.Omega.{arith}
 use borrow.Author.Needs.{needs}
 use Rattle.books.proofs.copy.Statement.{statement}

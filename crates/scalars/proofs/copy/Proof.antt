@@ -5,13 +5,12 @@ use mathlib.Core.List.{_++_}
 use denote.Ref.{now}
 use lib.Ieee.{nan}
 use lib.ListN.{length, take, drop, length-set}
-use Rattle.scalars.proofs.Laws.{copy-turn, copy-end}
+use Rattle.bits.proofs.Copying.{copy-turn}
+use Rattle.scalars.proofs.Laws.{copy-end}
 use native.Mathlib.Omega.{arith}
 use borrow.Author.Needs.{needs}
 use Rattle.scalars.proofs.copy.Statement.{statement}
 use Rattle.scalars.proofs.copy.Tie as tie
-use Rattle.scalars.proofs.copy.Reads as reads
-use Rattle.scalars.proofs.copy.Lts as lts
 
 abbrev Inv-loop : tie.InvT-loop
 Inv-loop from out₀ j₀ out j = (j ≤ length out₀) × (length out ≡ length out₀) × (out ≡ take j from ++ drop j out₀)

@@ -13,7 +13,8 @@ use Rattle.writer.specs.Written.{partOf, sixOf, itemOf}
 use Rattle.writer.proofs.Turns.{own}
 use Rattle.writer.proofs.Words.{Left, left-all, left-room, left-next, left-none}
 use Rattle.writer.proofs.Channel.{six-long}
-use Rattle.writer.proofs.Bins.{item-long, binsBits, binsSize, bins-long, bins-next, bins-end, known-hebap, part-six, bit-small}
+use Rattle.writer.proofs.Bins.{item-long, binsBits, binsSize, bins-long, bins-next, bins-end, part-six, bit-small}
+use Rattle.writer.proofs.Runs.{known-hebap}
 use Rattle.writer.proofs.write_bins.Statement.{statement}
 use Rattle.writer.proofs.write_bins.Tie as tie
 
