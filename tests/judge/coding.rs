@@ -34,7 +34,7 @@ fn vq_search(random: &mut Random, all: &mut Tally) {
         let want = if book_size(hebap) > 0 && x.iter().any(|&v| outside(v)) { (5, 99_999) } else { (0, ahtenc::vq_search(hebap, x)) };
         t.case((refusal, index) == want, || format!("{hebap} {x:?}: {refusal} {index}, not {want:?}"));
     };
-    // near and exact ties, from the paper on traps
+    // a near tie and an exact one
     one(1, &[-3582.0, -5096.0, -3448.0, 4629.0, -3975.0, -1091.0].map(|v: f32| v / 32768.0));
     one(1, &[-2535.0, 1492.0, -3722.0, -7072.0, -2163.0, -884.0].map(|v: f32| v / 32768.0));
     for hebap in 0..=255u8 {

@@ -1,8 +1,8 @@
 //! Compares the proved calls with the Rust that they were ported from: results, refusals, positions and every lent byte.
-//! The handed-over files stand beside this one under eac3/, unchanged. Its word is the seed.
+//! The files of the Rust stand beside this one under eac3/, unchanged. Its word is the seed.
 #![allow(dead_code)]
 
-/// What ahtenc.rs takes from audblk.rs, which rests on files that were not handed over, and from encoder.rs, which is one of them; none of it is called.
+/// What ahtenc.rs takes from audblk.rs, which rests on files that are not at hand, and from encoder.rs, which is one of these; none of it is called.
 mod audblk {
     pub const N_COEFFS: usize = 256;
 }
@@ -19,6 +19,8 @@ mod eac3 {
     }
 }
 #[cfg(not(record))]
+mod channels;
+#[cfg(not(record))]
 mod coding;
 #[cfg(not(record))]
 mod foundations;
@@ -27,6 +29,7 @@ mod ours;
 mod random;
 #[cfg(record)]
 mod record;
+mod shown;
 mod signals;
 
 fn seed() -> u64 {
@@ -46,6 +49,7 @@ fn main() {
     let mut all = Tally::default();
     foundations::run(seed, &mut all);
     coding::run(seed, &mut all);
+    channels::run(seed, &mut all);
     println!("compare: {} cases, {} different", all.cases, all.different);
     if all.different > 0 {
         std::process::exit(1);

@@ -22,6 +22,14 @@ extern "C" {
     fn fathrugg_plan_aht_channel(
         hebap: *const u8, bins: usize, start: usize, end: usize, x: *const f32, components: usize, mode: *mut u8, gains: *mut u8, count: *mut usize, payload: *mut u32,
     ) -> u8;
+    fn fathrugg_write_aht_channel(
+        mode: u8, gains: *const u8, count: usize, payload: u32, hebap: *const u8, bins: usize, start: usize, end: usize, x: *const f32, components: usize, out: *mut u8, len: usize,
+        byte: *mut usize, bit: *mut u32,
+    ) -> u8;
+    fn fathrugg_read_aht_channel(
+        src: *const u8, len: usize, byte: usize, bit: u32, hebap: *const u8, bins: usize, start: usize, end: usize, values: *mut f32, nvalues: usize, exact: *mut i32, nexact: usize,
+        indices: *mut u16, nindices: usize, mode: *mut u8, gains: *mut u8, count: *mut usize, bits: *mut u32,
+    ) -> u8;
 }
 
 /// A bit position, as the library has it.
@@ -109,6 +117,54 @@ pub fn plan_aht_channel(hebap: &[u8], start: usize, end: usize, x: &[f32], p: &m
     unsafe {
         fathrugg_plan_aht_channel(
             hebap.as_ptr(), hebap.len(), start, end, x.as_ptr(), x.len(), &mut p.mode, p.gains.as_mut_ptr(), &mut p.count, &mut p.payload,
+        )
+    }
+}
+
+#[allow(clippy::too_many_arguments)]
+pub fn write_aht_channel(plan: &Plan, hebap: &[u8], start: usize, end: usize, x: &[f32], out: &mut [u8], p: &mut Pos) -> u8 {
+    unsafe {
+        fathrugg_write_aht_channel(
+            plan.mode, plan.gains.as_ptr(), plan.count, plan.payload, hebap.as_ptr(), hebap.len(), start, end, x.as_ptr(), x.len(), out.as_mut_ptr(), out.len(), &mut p.byte, &mut p.bit,
+        )
+    }
+}
+
+/// What the channel reader answers beside its outputs.
+#[derive(Clone, Debug, PartialEq, Eq)]
+pub struct Channel {
+    pub mode: u8,
+    pub gains: [u8; 256],
+    pub count: usize,
+    pub bits: u32,
+}
+
+impl Channel {
+    pub fn filled() -> Channel {
+        Channel { mode: 0x5a, gains: [0x5a; 256], count: 4711, bits: 4711 }
+    }
+}
+
+/// What is lent to the channel reader.
+#[derive(Clone, Debug, PartialEq)]
+pub struct Outputs {
+    pub values: Vec<f32>,
+    pub exact: Vec<i32>,
+    pub indices: Vec<u16>,
+}
+
+impl Outputs {
+    /// Everything that is lent, the f32 by their bits.
+    pub fn bits(&self) -> (Vec<u32>, &[i32], &[u16]) {
+        (self.values.iter().map(|v| v.to_bits()).collect(), &self.exact, &self.indices)
+    }
+}
+
+pub fn read_aht_channel(src: &[u8], p: Pos, hebap: &[u8], start: usize, end: usize, out: &mut Outputs, c: &mut Channel) -> u8 {
+    unsafe {
+        fathrugg_read_aht_channel(
+            src.as_ptr(), src.len(), p.byte, p.bit, hebap.as_ptr(), hebap.len(), start, end, out.values.as_mut_ptr(), out.values.len(), out.exact.as_mut_ptr(), out.exact.len(),
+            out.indices.as_mut_ptr(), out.indices.len(), &mut c.mode, c.gains.as_mut_ptr(), &mut c.count, &mut c.bits,
         )
     }
 }

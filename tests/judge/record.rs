@@ -1,13 +1,21 @@
 //! The recorded answers that crates/replay replays: calls with what the Rust answers, 256 bytes each, least significant byte first.
 //! crates/replay/stdin was made by `tests/compare ../shared/docs/src 20261115 record`. read_u32 and write_u32 are the stand-in's
-//! answers; the numbers of refusals are document 01's.
+//! answers, read_aht_channel's those of the Rust's reading functions in the order of document 01 (shown.rs); the numbers of refusals are
+//! document 01's.
 //!
 //! 0 function, 1 refusal, 2 to 5 small arguments, 6 length of the input, 7 places of the output, 8 position's byte (8 bytes), 16 its
 //! bit (4), 20 a number of 32 bits, 24 one of 64, 32 the input (24), 56 the output before (24), 80 the output after (24), 104 the
 //! value, 112 and 120 the position after, 128 vectors (120). A refused call has its value 0 and its position and output as they were,
 //! a refused plan or bin is zeros.
+//!
+//! write_aht_channel: start, end, mode and count are the small arguments, the payload the number of 32 bits, the gains the eight bytes
+//! from 24 on, the row the input; the output has 24 places, and 7 tells how many numbers the vectors have.
+//! read_aht_channel: start, end and, after the call, mode and count are the small arguments; the row, of at most two bins, stands in the
+//! output's place, 7 tells how many; after the call the gains stand at 80, values at 128 (48), exact values at 176 (48) and indices at
+//! 224 (4), each byte 0x42 before it; the value is the bits of the field.
 use crate::eac3::{aht, ahtenc};
 use crate::random::Random;
+use crate::shown;
 use crate::signals::{aimed, allowed, bin_of, cause, channel, code_of, component, outside, vectors};
 use oxideav_core::bits::{BitReader, BitWriter};
 use std::io::Write;
@@ -78,7 +86,7 @@ impl Record {
 pub fn write(seed: u64, path: &str) {
     let mut random = Random::new(seed);
     let mut out = Vec::new();
-    for f in 1..=14u8 {
+    for f in 1..=16u8 {
         for i in 0..250 {
             out.push(one(f, i, &mut random));
         }
@@ -262,6 +270,114 @@ fn one(f: u8, i: usize, random: &mut Random) -> Record {
                 *place = [1, 2, 4][code as usize];
             }
             r
+        }
+        // write_aht_channel: the Rust's plan, at times spoiled
+        15 => {
+            let bins = random.below(4);
+            let (mut row, mut x) = channel(random, bins);
+            if i % 2 == 0 {
+                row.iter_mut().for_each(|h| *h = (*h).min(9));
+            }
+            let (start, end) = (0, bins);
+            let plan = ahtenc::plan_aht_channel(&row, start, end, &vectors(&x));
+            let total = 2 + plan.payload_bits as usize;
+            let (mut payload, mut mode) = (plan.payload_bits, plan.gaqmod);
+            match i % 12 {
+                1 => payload = payload.wrapping_add(random.pick(&[1, u32::MAX, 5])),
+                3 if bins > 0 => row[random.below(bins)] = 20 + random.below(236) as u8,
+                5 if bins > 0 => x[random.below(6 * bins)] = random.pick(&[f32::INFINITY, -1025.0]),
+                7 => x.truncate(random.below(6 * bins + 1)),
+                9 => mode = 4,
+                _ => {}
+            }
+            let at = random.below(193usize.saturating_sub(total).max(1)) + if i % 11 == 0 { 30 } else { 0 };
+            let before = random.bytes(24);
+            let mut r = Record::new(f).src(&row).vectors(&x).at(at, over).arg32(payload).args(&[start as u8, end as u8, mode, plan.gains.len() as u8]);
+            for (place, &code) in r.0[24..32].iter_mut().zip(&plan.gains) {
+                *place = [1, 2, 4][code as usize];
+            }
+            r.0[56..80].copy_from_slice(&before);
+            r.0[80..104].copy_from_slice(&before);
+            let number = match cause(&row, start, end, &x) {
+                0 if mode != plan.gaqmod || payload != plan.payload_bits => 6,
+                0 if at + total > 8 * 24 => 7,
+                n => n,
+            };
+            if number > 0 {
+                return r.answer(number, 0, at);
+            }
+            let mut w = BitWriter::new();
+            let mut b = BitReader::new(&before);
+            for _ in 0..at {
+                w.write_u32(b.read_u32(1).unwrap(), 1);
+            }
+            ahtenc::write_aht_channel(&mut w, &plan, &row, start, end, &vectors(&x));
+            let mut b = BitReader::at(&before, at + total).unwrap();
+            while let Ok(bit) = b.read_u32(1) {
+                w.write_u32(bit, 1);
+            }
+            r.0[80..104].copy_from_slice(&w.finish());
+            r.answer(0, 0, at + total)
+        }
+        // read_aht_channel: fields of the Rust, then any bits
+        16 => {
+            let bins = random.below(3);
+            let (mut row, x) = channel(random, bins);
+            let (mut start, mut end) = (0, bins);
+            let plan = ahtenc::plan_aht_channel(&row, start, end, &vectors(&x));
+            let mut w = BitWriter::new();
+            let before = random.below(8);
+            w.write_u32(random.next() as u32, before as u32);
+            ahtenc::write_aht_channel(&mut w, &plan, &row, start, end, &vectors(&x));
+            let mut src = w.finish();
+            src.truncate(24);
+            if i % 2 == 1 {
+                src = random.bytes(len.max(4));
+            }
+            if i % 4 == 1 {
+                // mode 3, so that gain words are met, half of them from 24 on
+                for k in before..before + if i % 8 == 1 { 4 } else { 2 } {
+                    src[k / 8] |= 1 << (7 - k % 8);
+                }
+            }
+            let at = if i % 9 == 0 { at } else { before };
+            match i % 14 {
+                1 => end = bins + 1,
+                3 => start = end + 1,
+                5 if bins > 0 => row[random.below(bins)] = 20,
+                7 if bins > 0 => start = random.below(bins),
+                _ => {}
+            }
+            let mut r = Record::new(f).src(&src).at(at, over);
+            r.0[7] = bins as u8;
+            r.0[56..56 + bins].copy_from_slice(&row);
+            r.0[128..228].fill(0x42);
+            let number = if start > end {
+                1
+            } else if end > bins {
+                3
+            } else if row[start..end].iter().any(|&h| h > 19) {
+                4
+            } else {
+                0
+            };
+            if number > 0 {
+                return r.args(&[start as u8, end as u8]).answer(number, 0, 0);
+            }
+            match shown::read(&src, at, &row[start..end]) {
+                Err(number) => r.args(&[start as u8, end as u8]).answer(number, 0, 0),
+                Ok(s) => {
+                    r.0[80..80 + s.gains.len()].copy_from_slice(&s.gains);
+                    for k in 0..6 * (end - start) {
+                        r.0[128 + 4 * (6 * start + k)..][..4].copy_from_slice(&s.values[k].to_bits().to_le_bytes());
+                        r.0[176 + 4 * (6 * start + k)..][..4].copy_from_slice(&s.exact[k].to_le_bytes());
+                    }
+                    for k in 0..end - start {
+                        r.0[224 + 2 * (start + k)..][..2].copy_from_slice(&s.indices[k].to_le_bytes());
+                    }
+                    r.args(&[start as u8, end as u8, s.mode, s.gains.len() as u8]).answer(0, s.bits, 0)
+                }
+            }
         }
         // read_scalar_aht_mantissas: first every hebap and gain, with codes chosen so that half of them are behind the tag
         _ if i < 216 => {

@@ -1,7 +1,7 @@
 -- Lists: copying to the front, and a book with more behind it. Assumes nothing.
 use Prim.Native.Nat.{ℕ, zero, suc, _+_, _*_, _^_, _≤_, _<_}
 use mathlib.Core.Path.{_≡_, refl, sym, _∙_}
-use mathlib.Core.Bool.{Bool, true, false, cond, _&&_}
+use mathlib.Core.Bool.{Bool, true, false, true≢false, cond, _&&_}
 use mathlib.Core.List.{List, _++_}
 use mathlib.Core.Logic.{_⊎_, inl, inr}
 use native.Mathlib.Omega.{arith}
@@ -11,10 +11,10 @@ use lib.Pow.{pow-pos, pow-mono}
 use lib.Ieee.{Float, inf, lt}
 use lib.ListN.{length, take, drop, List·getD-append, length-append}
 use lib.Seq.{take-all}
-use borrow.Author.Tests.{lt-leb, leb-true}
+use borrow.Author.Tests.{le-leb, lt-leb, leb-true}
 use Rattle.tables.specs.Tables.{book, vqBits}
 use Rattle.tables.proofs.Rules.{book-none, book-size, vq-most}
-use Rattle.books.specs.Books.{hasBook, vectorsOf, sumTo, distanceOf, searchFrom, nearestIn, sixAt}
+use Rattle.books.specs.Books.{hasBook, vectorsOf, sumTo, distanceOf, searchFrom, nearestIn}
 
 pub copy-end : {A : Type 0} (b o : List A) (i : ℕ) → i ≡ length b → take i b ++ drop i o ≡ b ++ drop (length b) o
 copy-end b o i e = let h : length b ≤ i = omega arith in rw (take-all i b h, e)
@@ -42,24 +42,6 @@ module _ (b r : List ℤ) where
   pub same-nearest : (n : ℕ) (x : List Float) → n * 6 ≤ length b → nearestIn (b ++ r) n x ≡ nearestIn b n x
   unfolding nearestIn
   same-nearest n x h = same-search x n 0 0 (inf false) (omega arith)
-
-  pub same-six : (a : ℕ) → a + 6 ≤ length b → sixAt (b ++ r) a ≡ sixAt b a
-  unfolding sixAt
-  same-six a h =
-      let k0 : a < length b = omega arith in
-      let k1 : a + 1 < length b = omega arith in
-      let k2 : a + 2 < length b = omega arith in
-      let k3 : a + 3 < length b = omega arith in
-      let k4 : a + 4 < length b = omega arith in
-      let k5 : a + 5 < length b = omega arith in
-      rw (
-        List·getD-append b r (pos 0) a k0,
-        List·getD-append b r (pos 0) (a + 1) k1,
-        List·getD-append b r (pos 0) (a + 2) k2,
-        List·getD-append b r (pos 0) (a + 3) k3,
-        List·getD-append b r (pos 0) (a + 4) k4,
-        List·getD-append b r (pos 0) (a + 5) k5,
-      )
 
 -- ---- the book of a hebap at the front of the room
 pub loaded : (h k n : ℕ) (b r r′ : List ℤ) → h ≡ k → n ≡ vectorsOf k → b ≡ book k → r′ ≡ b ++ drop (length b) r
@@ -113,6 +95,9 @@ has-book h n e z = go (leb 1 h) refl (leb h 7) refl e
         record { it-has = rw (p, q); size = r; few = omega arith; whole = let s = book-size h l u in omega arith }
     go true p false q r = absurd (z r)
     go false p u q r = absurd (z r)
+
+pub some-vectors : (h n : ℕ) → 1 ≤ h → h ≤ 7 → n ≡ vectorsOf h → n ≡ 0 → ⊥
+some-vectors h n l u e z = true≢false (sym (rw (le-leb 1 h l, le-leb h 7 u)) ∙ no-book h n e z)
 
 -- a book with more behind it is at least as long
 pub longer : (b r l : List ℤ) → l ≡ b ++ r → length b ≤ length l

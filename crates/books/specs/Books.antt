@@ -4,7 +4,7 @@ use mathlib.Core.Path.{_≡_}
 use mathlib.Core.Bool.{Bool, true, false, cond, _&&_}
 use mathlib.Core.List.{List, [], _∷_}
 use lib.Dec.{leb}
-use lib.IntN.{ℤ, pos}
+use lib.IntN.{ℤ, pos, _*ℤ_}
 use lib.ListN.{getD, replicate}
 use lib.Ieee.{Float, nan, inf, binary32, add, sub, mul, lt}
 use Rattle.tables.specs.Tables.{book, vqBits}
@@ -27,9 +27,21 @@ sixAt b a =
     q15 (getD b a (pos 0)) ∷ q15 (getD b (a + 1) (pos 0)) ∷ q15 (getD b (a + 2) (pos 0)) ∷
     q15 (getD b (a + 3) (pos 0)) ∷ q15 (getD b (a + 4) (pos 0)) ∷ q15 (getD b (a + 5) (pos 0)) ∷ []
 
+abbrev pub exactEntry : ℤ → ℤ
+exactEntry e = e *ℤ pos (2 ^ 15)
+
 -- ---- vq_lookup: the vector at an index, counted round; zeros where the hebap has no book
 unfoldable pub vqLookup : ℕ → ℕ → List Float
 vqLookup h i = cond (hasBook h) (sixAt (book h) (i % 2 ^ vqBits h * 6)) (replicate 6 f0)
+
+-- their exact values, in units of 2 ^ -30: entry × 2 ^ 15. Document 01, Channel reader
+unfoldable pub exactsAt : List ℤ → ℕ → List ℤ
+exactsAt b a =
+    exactEntry (getD b a (pos 0)) ∷ exactEntry (getD b (a + 1) (pos 0)) ∷ exactEntry (getD b (a + 2) (pos 0)) ∷
+    exactEntry (getD b (a + 3) (pos 0)) ∷ exactEntry (getD b (a + 4) (pos 0)) ∷ exactEntry (getD b (a + 5) (pos 0)) ∷ []
+
+unfoldable pub vqExact : ℕ → ℕ → List ℤ
+vqExact h i = cond (hasBook h) (exactsAt (book h) (i % 2 ^ vqBits h * 6)) (replicate 6 (pos 0))
 
 -- ---- distances, each operation rounded once
 -- d and the square of what x and the entry e differ by

@@ -3,8 +3,9 @@ ghost use mathlib.Core.Path.{_≡_};
 ghost use Prim.Native.Nat.{_+_, _*_, _≤_, _<_, _^_};
 ghost use mathlib.Core.List.{_++_};
 ghost use lib.ListN.{length, take, drop};
+ghost use Rattle.bits.specs.Bits.{splice};
 ghost use Rattle.tables.specs.Tables.{book, vqBits};
-ghost use Rattle.books.specs.Books.{vectorsOf, sixAt, vqLookup, termOf, sumTo, nearestIn, vqSearch};
+ghost use Rattle.books.specs.Books.{vectorsOf, sixAt, vqLookup, exactEntry, exactsAt, vqExact, termOf, sumTo, nearestIn, vqSearch};
 
 // What vq_search answers: an index of the book, or the number of the refusal.
 pub enum SearchResult {
@@ -104,6 +105,50 @@ pub fn vq_lookup(hebap: u8, index: usize) -> [f32; 6]
 {
     let mut room = [0i16; 3072];
     lookup_with(hebap, index, &mut room)
+}
+
+fn exact_entry(e: i16) -> i32
+    ensures { λ r. ⌜ r ≡ exactEntry e ⌝ }
+{
+    (e as i32) * 32768
+}
+
+// The six numbers of the book from the place a on go to the places from `at` on, as fractions and as exact values.
+fn put_six(book: &[i16], a: usize, at: usize, values: &mut [f32], exact: &mut [i32])
+    requires { ⌜ (a + 6 ≤ length (now book)) × (a < 65536) ⌝ }
+    requires { ⌜ (at + 6 ≤ length (now values)) × (at + 6 ≤ length (now exact)) ⌝ }
+    ensures { λ r. ⌜ now (values .exit) ≡ splice (now (values .entry)) at (sixAt (now (book .entry)) a) ⌝ }
+    ensures { λ r. ⌜ now (exact .exit) ≡ splice (now (exact .entry)) at (exactsAt (now (book .entry)) a) ⌝ }
+{
+    let mut j: usize = 0;
+    while j < 6 {
+        let e = book[a + j];
+        values[at + j] = levels::q15(e);
+        exact[at + j] = exact_entry(e);
+        j += 1;
+    }
+}
+
+// The vector at an index of the book of the hebap, counted round, goes to the places from `at` on, as f32 and as exact values.
+pub fn put_vector(
+    hebap: u8,
+    index: usize,
+    room: &mut [i16],
+    at: usize,
+    values: &mut [f32],
+    exact: &mut [i32],
+)
+    requires { ⌜ (1 ≤ hebap) × (hebap ≤ 7) ⌝ }
+    requires { ⌜ length (now room) ≡ 3072 ⌝ }
+    requires { ⌜ (at + 6 ≤ length (now values)) × (at + 6 ≤ length (now exact)) ⌝ }
+    ensures { λ r. ⌜ now (values .exit) ≡ splice (now (values .entry)) at (vqLookup hebap index) ⌝ }
+    ensures { λ r. ⌜ now (exact .exit) ≡ splice (now (exact .entry)) at (vqExact hebap index) ⌝ }
+    ensures { λ r. ⌜ now (room .exit) ≡ book hebap ++ drop (length (book hebap)) (now (room .entry)) ⌝ }
+{
+    let n = load_book(hebap, &mut *room);
+    if n != 0 {
+        put_six(&*room, index % n * 6, at, &mut *values, &mut *exact);
+    }
 }
 
 // ---- searching

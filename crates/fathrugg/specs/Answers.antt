@@ -1,8 +1,12 @@
 -- The answers of the crates below as C has them: the number of a refusal, 0 for none, and what each lent place holds afterwards.
-use Prim.Native.Nat.{ℕ}
+use Prim.Native.Nat.{ℕ, _-_, _*_}
 use mathlib.Core.Bool.{cond}
+use mathlib.Core.List.{List}
 use lib.Dec.{eqb}
 use lib.Ieee.{Float}
+use lib.ListN.{length}
+use Rattle.bits.specs.Bits.{bitAt}
+use Rattle.bits.specs.Format.{Got}
 use Rattle.bits.specs.declared.BitPos.{BitPos}
 use Rattle.bits.specs.declared.BitRead.{BitRead}
 use Rattle.bits.specs.declared.BitWrite.{BitWrite}
@@ -14,7 +18,11 @@ use Rattle.levels.specs.declared.Code.{Code}
 use Rattle.levels.specs.Value.{valueIn}
 use Rattle.scalars.specs.declared.ScalarResult.{ScalarResult}
 use Rattle.books.specs.declared.SearchResult.{SearchResult}
+use Rattle.field.specs.Field.{Channel}
 use Rattle.quantiser.specs.declared.PickResult.{PickResult}
+use Rattle.planner.specs.declared.Plan.{Plan}
+use Rattle.reader.specs.declared.ChannelRead.{ChannelRead}
+use Rattle.reader.specs.Reading.{channelRead, readAnswer}
 
 -- the position that a byte and a bit name
 abbrev pub place : ℕ → ℕ → BitPos
@@ -122,3 +130,17 @@ pickedValue v (PickResult.Refused n) = v
 -- What a lent place holds after an answer that is a struct with the number n in it: v, or w where n refuses.
 abbrev pub afterNumber : {A : Type 0} → ℕ → A → A → A
 afterNumber n v w = cond (eqb n 0) v w
+
+-- the plan that C lends part by part
+abbrev pub planFrom : ℕ → List ℕ → ℕ → ℕ → Plan
+planFrom mode gains count payload = record { mode = mode; gains = gains; count = count; payload = payload }
+
+-- the channel that the bytes s have from a byte and a bit on, where values, exact and indices are the outputs
+abbrev pub channelSeen : {A B C : Type 0} → List ℕ → ℕ → ℕ → List ℕ → ℕ → ℕ → List A → List B → List C → Got Channel
+channelSeen s byte bit row start end values exact indices =
+    channelRead s (bitAt (place byte bit)) row start end (length values) (length exact) (length indices)
+
+-- the reader's answer for it
+abbrev pub answerSeen : {A B C : Type 0} → List ℕ → ℕ → ℕ → List ℕ → ℕ → ℕ → List A → List B → List C → ChannelRead
+answerSeen s byte bit row start end values exact indices =
+    readAnswer (8 * length s - bitAt (place byte bit)) (channelSeen s byte bit row start end values exact indices)

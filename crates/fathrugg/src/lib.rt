@@ -1,4 +1,5 @@
-// The C interface: each call answers the number of its refusal, 0 for none. A position is a byte and a bit, lent and moved on.
+// The C interface: each call answers the number of its refusal, 0 for none. A position is a byte and a bit, lent and moved on; the channel
+// reader's goes by value.
 ghost use mathlib.Core.Path.{_≡_};
 ghost use Prim.Native.Nat.{_*_};
 ghost use lib.ListN.{length};
@@ -7,9 +8,13 @@ ghost use Rattle.tables.specs.Tables.{hebapFromAddress};
 ghost use Rattle.gains.specs.Gains.{endbapForGaqmod, gaqGainValue, gaqSections, fillGaqbin, gaqbinAfter, readGaqGains, gainsAfter};
 ghost use Rattle.scalars.specs.Scalars.{scalarAnswer, scalarsRead, scalarsAfter};
 ghost use Rattle.books.specs.Books.{vqLookup, vqSearch};
+ghost use Rattle.field.specs.Field.{partOf};
+ghost use Rattle.field.specs.Shown.{valuesShown, exactsShown, indicesShown};
 ghost use Rattle.quantiser.specs.Quantise.{quantised, quantisedBin};
 ghost use Rattle.planner.specs.Planning.{planned};
-ghost use Rattle.fathrugg.specs.Answers.{place, readNumber, readValue, readPlace, writeNumber, writePlace, hebapNumber, hebapValue, byteNumber, byteValue, countNumber, countValue, gainsNumber, gainsValue, gainsPlace, scalarNumber, scalarPlace, searchNumber, searchValue, largeOf, codeOf, pickedNumber, pickedLarge, pickedCode, pickedValue, afterNumber};
+ghost use Rattle.writer.specs.Written.{channelWrite, channelWritten};
+ghost use Rattle.reader.specs.Reading.{withShown};
+ghost use Rattle.fathrugg.specs.Answers.{place, readNumber, readValue, readPlace, writeNumber, writePlace, hebapNumber, hebapValue, byteNumber, byteValue, countNumber, countValue, gainsNumber, gainsValue, gainsPlace, scalarNumber, scalarPlace, searchNumber, searchValue, largeOf, codeOf, pickedNumber, pickedLarge, pickedCode, pickedValue, afterNumber, planFrom, channelSeen, answerSeen};
 use bits::BitPos;
 use bits::BitRead;
 use bits::BitWrite;
@@ -18,9 +23,11 @@ use gains::ByteResult;
 use gains::CountResult;
 use gains::GainsResult;
 use levels::Code;
+use planner::Plan;
 use planner::Planned;
 use quantiser::PickResult;
 use quantiser::QuantisedBin;
+use reader::ChannelRead;
 use scalars::ScalarResult;
 use tables::HebapResult;
 
@@ -373,4 +380,100 @@ pub extern "C" fn fathrugg_plan_aht_channel(
         return 0;
     }
     p.refusal
+}
+
+// Writes the field of a plan, whose gains are the first count places, from the position on. Refusals 1 to 7.
+#[no_mangle]
+pub extern "C" fn fathrugg_write_aht_channel(
+    mode: u8,
+    gains: &[u8; 256],
+    count: usize,
+    payload: u32,
+    hebap: &[u8],
+    start: usize,
+    end: usize,
+    x: &[f32],
+    out: &mut [u8],
+    byte: &mut usize,
+    bit: &mut u32,
+) -> u8
+    ensures { λ r. ⌜ r ≡ writeNumber (channelWrite (planFrom mode (now (gains .entry)) count payload) (now (hebap .entry)) start end (now (x .entry)) (now (out .entry)) (bitAt (place (now (byte .entry)) (now (bit .entry))))) ⌝ }
+    ensures { λ r. ⌜ now (out .exit) ≡ channelWritten (planFrom mode (now (gains .entry)) count payload) (now (hebap .entry)) start end (now (x .entry)) (now (out .entry)) (bitAt (place (now (byte .entry)) (now (bit .entry)))) ⌝ }
+    ensures { λ r. ⌜ place (now (byte .exit)) (now (bit .exit)) ≡ writePlace (place (now (byte .entry)) (now (bit .entry))) (channelWrite (planFrom mode (now (gains .entry)) count payload) (now (hebap .entry)) start end (now (x .entry)) (now (out .entry)) (bitAt (place (now (byte .entry)) (now (bit .entry))))) ⌝ }
+{
+    let p = BitPos {
+        byte: *byte,
+        bit: *bit,
+    };
+    let g = *gains;
+    let plan = Plan {
+        mode,
+        gains: g,
+        count,
+        payload,
+    };
+    let answer = writer::write_aht_channel(plan, hebap, start, end, x, &mut *out, p);
+    match answer {
+        BitWrite::Refused(k) => k,
+        BitWrite::Done(q) => {
+            *byte = q.byte;
+            *bit = q.bit;
+            0
+        }
+    }
+}
+
+fn gains_read(r: ChannelRead) -> [u8; 256]
+    ensures { λ a. ⌜ a ≡ r .gains ⌝ }
+{
+    r.gains
+}
+
+// Reads the field of the bins start to end - 1 from the position on: six f32, six exact values and an index a bin; the mode, the
+// gains in bin order, how many, and the bits of the field. Refusals 1 to 4, 8, 9, 10. The next position is the byte
+// byte + (bit + bits) / 8 and the bit (bit + bits) % 8, added in 64 bits.
+#[no_mangle]
+pub extern "C" fn fathrugg_read_aht_channel(
+    src: &[u8],
+    byte: usize,
+    bit: u32,
+    hebap: &[u8],
+    start: usize,
+    end: usize,
+    values: &mut [f32],
+    exact: &mut [i32],
+    indices: &mut [u16],
+    mode: &mut u8,
+    gains: &mut [u8; 256],
+    count: &mut usize,
+    bits: &mut u32,
+) -> u8
+    ensures { λ r. ⌜ r ≡ answerSeen (now (src .entry)) byte bit (now (hebap .entry)) start end (now (values .entry)) (now (exact .entry)) (now (indices .entry)) .refusal ⌝ }
+    ensures { λ r. ⌜ now (values .exit) ≡ withShown (valuesShown (partOf (now (hebap .entry)) start end)) (6 * start) (now (values .entry)) (channelSeen (now (src .entry)) byte bit (now (hebap .entry)) start end (now (values .entry)) (now (exact .entry)) (now (indices .entry))) ⌝ }
+    ensures { λ r. ⌜ now (exact .exit) ≡ withShown (exactsShown (partOf (now (hebap .entry)) start end)) (6 * start) (now (exact .entry)) (channelSeen (now (src .entry)) byte bit (now (hebap .entry)) start end (now (values .entry)) (now (exact .entry)) (now (indices .entry))) ⌝ }
+    ensures { λ r. ⌜ now (indices .exit) ≡ withShown (indicesShown (partOf (now (hebap .entry)) start end)) start (now (indices .entry)) (channelSeen (now (src .entry)) byte bit (now (hebap .entry)) start end (now (values .entry)) (now (exact .entry)) (now (indices .entry))) ⌝ }
+    ensures { λ r. ⌜ now (mode .exit) ≡ afterNumber (answerSeen (now (src .entry)) byte bit (now (hebap .entry)) start end (now (values .entry)) (now (exact .entry)) (now (indices .entry)) .refusal) (answerSeen (now (src .entry)) byte bit (now (hebap .entry)) start end (now (values .entry)) (now (exact .entry)) (now (indices .entry)) .mode) (now (mode .entry)) ⌝ }
+    ensures { λ r. ⌜ now (gains .exit) ≡ afterNumber (answerSeen (now (src .entry)) byte bit (now (hebap .entry)) start end (now (values .entry)) (now (exact .entry)) (now (indices .entry)) .refusal) (answerSeen (now (src .entry)) byte bit (now (hebap .entry)) start end (now (values .entry)) (now (exact .entry)) (now (indices .entry)) .gains) (now (gains .entry)) ⌝ }
+    ensures { λ r. ⌜ now (count .exit) ≡ afterNumber (answerSeen (now (src .entry)) byte bit (now (hebap .entry)) start end (now (values .entry)) (now (exact .entry)) (now (indices .entry)) .refusal) (answerSeen (now (src .entry)) byte bit (now (hebap .entry)) start end (now (values .entry)) (now (exact .entry)) (now (indices .entry)) .count) (now (count .entry)) ⌝ }
+    ensures { λ r. ⌜ now (bits .exit) ≡ afterNumber (answerSeen (now (src .entry)) byte bit (now (hebap .entry)) start end (now (values .entry)) (now (exact .entry)) (now (indices .entry)) .refusal) (answerSeen (now (src .entry)) byte bit (now (hebap .entry)) start end (now (values .entry)) (now (exact .entry)) (now (indices .entry)) .bits) (now (bits .entry)) ⌝ }
+{
+    let p = BitPos { byte, bit };
+    let c = reader::read_aht_channel(
+        src,
+        p,
+        hebap,
+        start,
+        end,
+        &mut *values,
+        &mut *exact,
+        &mut *indices,
+    );
+    if c.refusal == 0 {
+        *mode = c.mode;
+        *gains = gains_read(c);
+        *count = c.count;
+        *bits = c.bits;
+        return 0;
+    }
+    c.refusal
 }

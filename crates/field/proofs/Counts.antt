@@ -35,7 +35,7 @@ gainWords-count mode n few zeroes gs = by-mode (λ F. F .Ok gs → length gs ≡
     neither p q r o = let z : mode ≡ 0 = omega arith in ap length o ∙ sym (zeroes z)
 
 -- mode 0 has no active bin
-active-none : (mode : ℕ) (row : List ℕ) → mode ≡ 0 → activeBins mode row ≡ 0
+pub active-none : (mode : ℕ) (row : List ℕ) → mode ≡ 0 → activeBins mode row ≡ 0
 unfolding activeBins active
 active-none mode [] e = refl
 active-none mode (h ∷ row) e = rw (e, active-none 0 row refl)
@@ -44,7 +44,7 @@ pub field-gains : (row : List ℕ) (c : Channel) → field row .Ok c → length 
 unfolding number
 field-gains row c o = gainWords-count (c .0) (activeBins (c .0) row) (omega (arith, o .0)) (active-none (c .0) row) (c .1 .0) (o .1 .0)
 
-length-bins : (mode : ℕ) (row gs : List ℕ) → length (binsOf mode row gs) ≡ length row
+pub length-bins : (mode : ℕ) (row gs : List ℕ) → length (binsOf mode row gs) ≡ length row
 unfolding binsOf
 length-bins mode [] gs = refl
 length-bins mode (h ∷ row) gs = ap suc (length-bins mode row (cond (active mode h) (drop 1 gs) gs))

@@ -8,13 +8,12 @@ use native.Mathlib.Omega.{arith}
 use lib.ListN.{length, length-append, take, drop}
 use Rattle.bits.specs.Bits.{bitsOf}
 use Rattle.bits.specs.Format.{got}
-use Rattle.bits.proofs.Lawful.{taken}
+use Rattle.bits.proofs.Lawful.{taken, same-shown}
 use Rattle.field.specs.Field.{Channel, field, fieldBits}
 use Rattle.field.specs.Shown.{SameShown, fieldAt}
 use Rattle.field.proofs.Laws.{field-lawful}
 use Rattle.field.proofs.Bits.{field-sized}
-use Rattle.field.proofs.Same.{field-same}
-use Rattle.field.proofs.Pointwise.{same-view}
+use Rattle.field.proofs.Pointwise.{same-channel}
 
 -- reading takes the bits of what is read
 pub field-used : (row : List ℕ) (bs rest : List Bool) (c : Channel) → field row .dec bs ≡ got c rest → length bs - length rest ≡ fieldBits row c
@@ -35,6 +34,6 @@ fields-same row s s′ at at′ c c′ rest rest′ e e′ =
     let ok′ = field-lawful row .sole bs′ rest′ c′ e′ .1 in
     let p : taken bs rest ≡ fieldAt s at (fieldBits row c) = ap (λ (n : ℕ). take n bs) (field-used row bs rest c e) in
     let p′ : taken bs′ rest′ ≡ fieldAt s′ at′ (fieldBits row c′) = ap (λ (n : ℕ). take n bs′) (field-used row bs′ rest′ c′ e′) in
-    let f = field-same row bs bs′ rest rest′ c c′ e e′ in
-    let g = same-view row c c′ ok ok′ in
+    let f = same-shown (field row) (field-lawful row) bs bs′ rest rest′ c c′ e e′ in
+    let g = same-channel row c c′ ok ok′ in
     (λ q. g .0 (f .0 (p ∙ q ∙ sym p′)), λ q. sym p ∙ f .1 (g .1 q) ∙ p′)

@@ -2,6 +2,8 @@ pub mod Laws
 pub mod Bits
 pub mod Counts
 pub mod Same
+pub mod Lengths
+pub mod Most
 pub mod Pointwise
 pub mod Fields
-pub mod Points
+pub mod Words

@@ -1,16 +1,20 @@
 -- The field of a channel: two bits of mode, gain words, then the bins in rising order. ATSC A/52 Annex E, 3.4; document 01, Writer and
 -- Channel reader. The row here has the hebaps of the bins start to end - 1.
-use Prim.Native.Nat.{ℕ, zero, suc, _+_, _*_, _/_, _%_}
+use Prim.Native.Nat.{ℕ, zero, suc, _+_, _-_, _*_, _/_, _%_}
 use mathlib.Core.Bool.{Bool, cond, _||_}
 use mathlib.Core.List.{List, [], _∷_}
 use lib.Dec.{eqb, leb}
-use lib.ListN.{drop, replicate}
+use lib.ListN.{take, drop, replicate}
 use Rattle.bits.specs.Format.{Format, number, only, both, tested, shown, each, sizes}
 use Rattle.tables.specs.Tables.{mantBits, vqBits}
 use Rattle.gains.specs.Gains.{active, codingOf, gainValue, gainWordBits}
 use Rattle.gains.specs.declared.Coding.{Coding}
 use Rattle.levels.specs.declared.Code.{Code}
 use Rattle.levels.specs.Codes.{six, codeBits}
+
+-- the hebaps of the bins start to end - 1
+abbrev pub partOf : List ℕ → ℕ → ℕ → List ℕ
+partOf row start end = take (end - start) (drop start row)
 
 -- ---- gain words (3.4.2, Tables E3.3 and E3.4): gains as Gk, in bin order
 -- the code of a gain

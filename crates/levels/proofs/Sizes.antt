@@ -25,6 +25,10 @@ pub mag-abs : (z : ℤ) → mag z ≤ natAbs z
 mag-abs (pos n) = omega arith
 mag-abs (negsuc n) = omega arith
 
+pub abs-mag : (z : ℤ) → natAbs z ≤ suc (mag z)
+abs-mag (pos n) = omega arith
+abs-mag (negsuc n) = omega arith
+
 abs-neg : (n : ℕ) → natAbs (negℤ (pos n)) ≡ n
 abs-neg zero = refl
 abs-neg (suc n) = refl

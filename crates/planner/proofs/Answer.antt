@@ -60,11 +60,11 @@ module _ (row : List ℕ) (start end : ℕ) (x : List Float) where
     unfolding causeOf
     cause-0 h k = sym (rw (le-ltb end start a, le-ltb 256 end b, le-ltb (length row) end c, le-ltb (length x) (6 * end) d, h, k))
 
-or-none : (a b : Bool) → a || b ≡ false → (a ≡ false) × (b ≡ false)
+pub or-none : (a b : Bool) → a || b ≡ false → (a ≡ false) × (b ≡ false)
 or-none true b h = absurd (subst T h tt)
 or-none false b h = (refl, h)
 
-none-of : (t : Bool) (n b : ℕ) → cond t (suc n) b ≡ 0 → (t ≡ false) × (b ≡ 0)
+pub none-of : (t : Bool) (n b : ℕ) → cond t (suc n) b ≡ 0 → (t ≡ false) × (b ≡ 0)
 none-of true n b h = absurd (let z : suc n ≡ 0 = h in omega arith)
 none-of false n b h = (refl, h)
 

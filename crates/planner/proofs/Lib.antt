@@ -6,4 +6,3 @@ pub mod Steps
 pub mod Sweep
 pub mod Chosen
 pub mod Answer
-pub mod Points

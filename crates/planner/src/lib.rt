@@ -288,7 +288,7 @@ fn fill_gains(row: &[u8], start: usize, end: usize, x: &[f32], mode: u8, gains: 
     n
 }
 
-fn no_gains() -> [u8; 256]
+pub fn no_gains() -> [u8; 256]
     ensures { λ r. ⌜ r ≡ noGains ⌝ }
 {
     [0u8; 256]
@@ -326,7 +326,8 @@ fn refuse(n: u8) -> Planned
     }
 }
 
-fn any_unknown(row: &[u8], start: usize, end: usize) -> bool
+// Whether some hebap of the bins start to end - 1 is above 19.
+pub fn any_unknown(row: &[u8], start: usize, end: usize) -> bool
     requires { ⌜ (start ≤ end) × (end ≤ length (now row)) ⌝ }
     ensures { λ r. ⌜ r ≡ someOver (unknownAt (now (row .entry))) start end ⌝ }
 {
@@ -423,7 +424,8 @@ fn step_if(b: bool) -> usize
     if b { 1 } else { 0 }
 }
 
-fn count_active(row: &[u8], start: usize, end: usize, mode: u8) -> usize
+// How many bins are active in a mode.
+pub fn count_active(row: &[u8], start: usize, end: usize, mode: u8) -> usize
     requires { ⌜ (start ≤ end) × (end ≤ 256) × (end ≤ length (now row)) ⌝ }
     ensures { λ r. ⌜ r ≡ activeCount mode (now (row .entry)) start end ⌝ }
 {

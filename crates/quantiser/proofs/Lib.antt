@@ -6,4 +6,3 @@ pub mod Probing
 pub mod Bounds
 pub mod Bins
 pub mod Facts
-pub mod Points

@@ -15,6 +15,7 @@ use planner::Plan;
 use planner::Planned;
 use quantiser::PickResult;
 use quantiser::QuantisedBin;
+use reader::ChannelRead;
 use scalars::ScalarResult;
 use tables::HebapResult;
 
@@ -56,6 +57,10 @@ const NEXT_BYTE: usize = 112;
 const NEXT_BIT: usize = 120;
 
 const VECTORS: usize = 128;
+
+const EXACT: usize = 176;
+
+const INDICES: usize = 224;
 
 // A function, how many answers of it were replayed, and how many of them were wrong.
 pub struct Count {
@@ -170,6 +175,13 @@ fn replay_read(r: &Record) -> bool {
     }
 }
 
+fn replay_written(r: &Record, answer: BitWrite) -> bool {
+    match answer {
+        BitWrite::Done(q) => same_value(r, 0, 0) && same_place(r, q),
+        BitWrite::Refused(k) => same_value(r, k, 0),
+    }
+}
+
 // The call writes to the place of the output in a copy of the record.
 fn replay_write(r: Record) -> bool {
     let mut out = r;
@@ -178,13 +190,7 @@ fn replay_write(r: Record) -> bool {
     let p = position(&r);
     let v = number32(&r, ARG32) as u32;
     let answer = p.write_u32(&mut out[OUT..end], v, r[A] as u32);
-    if !same_out(&r, &out, n) {
-        return false;
-    }
-    match answer {
-        BitWrite::Done(q) => same_value(&r, 0, 0) && same_place(&r, q),
-        BitWrite::Refused(k) => same_value(&r, k, 0),
-    }
+    same_out(&r, &out, n) && replay_written(&r, answer)
 }
 
 fn replay_hebap(r: &Record) -> bool {
@@ -406,6 +412,117 @@ fn replay_plan(r: &Record, answer: Planned) -> bool {
     same_value(r, answer.refusal, p.payload as u64) && same_plan(r, p)
 }
 
+// The gains of a plan: eight of the record, then zeros.
+fn gains_of(r: &Record) -> [u8; 256] {
+    let mut gains = planner::no_gains();
+    let mut i: usize = 0;
+    while i < 8 {
+        gains[i] = r[ARG64 + i];
+        i += 1;
+    }
+    gains
+}
+
+fn plan_of(r: &Record, gains: [u8; 256]) -> Plan {
+    Plan {
+        mode: r[C],
+        gains,
+        count: wide(r[D]) as usize,
+        payload: number32(r, ARG32) as u32,
+    }
+}
+
+fn replay_channel_write(r: Record, plan: Plan, x: [f32; 30]) -> bool {
+    let mut out = r;
+    let n = components(r[OUT_LEN]);
+    let start = wide(r[A]) as usize;
+    let end = wide(r[B]) as usize;
+    let p = position(&r);
+    let answer = writer::write_aht_channel(
+        plan,
+        input(&r),
+        start,
+        end,
+        &x[0..n],
+        &mut out[OUT..OUT_AFTER],
+        p,
+    );
+    same_out(&r, &out, 24) && replay_written(&r, answer)
+}
+
+// How many bins the row that is read has, at most 2.
+fn bins(b: u8) -> usize
+    ensures { λ n. ⌜ n ≤ 2 ⌝ }
+{
+    if b < 2 { b as usize } else { 2 }
+}
+
+// The row that is read stands in the output's place.
+fn row(r: &Record) -> &[u8] {
+    let all = &r[..];
+    let end = OUT + bins(r[OUT_LEN]);
+    &all[OUT..end]
+}
+
+fn same_values(r: &Record, values: &[f32; 12]) -> bool {
+    let mut i: usize = 0;
+    while i < 12 {
+        if !same_float(r, VECTORS + 4 * i, values[i]) {
+            return false;
+        }
+        i += 1;
+    }
+    true
+}
+
+fn same_exact(r: &Record, exact: &[i32; 12]) -> bool {
+    let mut i: usize = 0;
+    while i < 12 {
+        if exact[i] != signed32(number32(r, EXACT + 4 * i)) {
+            return false;
+        }
+        i += 1;
+    }
+    true
+}
+
+fn same_indices(r: &Record, indices: &[u16; 2]) -> bool {
+    number16(r, INDICES) as u16 == indices[0] && number16(r, INDICES + 2) as u16 == indices[1]
+}
+
+// A refusal has its mode, count and gains 0, as the record has.
+fn replay_channel(r: &Record, answer: ChannelRead) -> bool {
+    let gains = answer.gains;
+    same_value(r, answer.refusal, answer.bits as u64)
+        && r[C] == answer.mode
+        && wide(r[D]) == answer.count as u64
+        && same_gains(r, gains)
+}
+
+fn replay_channel_read(r: &Record) -> bool {
+    // each byte of these is 0x42, as in every record before the call
+    let mut values = [48.564705f32; 12];
+    let mut exact = [0x4242_4242i32; 12];
+    let mut indices = [0x4242u16; 2];
+    let p = position(r);
+    let start = wide(r[A]) as usize;
+    let end = wide(r[B]) as usize;
+    let answer = reader::read_aht_channel(
+        input(r),
+        p,
+        row(r),
+        start,
+        end,
+        &mut values,
+        &mut exact,
+        &mut indices,
+    );
+    same_values(r, &values)
+        && same_exact(r, &exact)
+        && same_indices(r, &indices)
+        && replay_channel(r, answer)
+}
+
 // Whether the call of the record gives the record's answer.
 fn right(r: &Record) -> bool {
     let function = r[0];
@@ -424,6 +541,8 @@ fn right(r: &Record) -> bool {
         12 => replay_scalar(r, quantiser::quantise_scalar(r[A], r[B], component(r, 0))),
         13 => replay_bin(r, bin(r, six(r))),
         14 => replay_plan(r, plan(r, vectors(r))),
+        15 => replay_channel_write(*r, plan_of(r, gains_of(r)), vectors(r)),
+        16 => replay_channel_read(r),
         _ => false,
     }
 }
@@ -444,6 +563,8 @@ fn say(function: u8) -> bool {
         12 => io::write_all(STDOUT_FILENO, b"quantise_scalar: "),
         13 => io::write_all(STDOUT_FILENO, b"quantise_bin: "),
         14 => io::write_all(STDOUT_FILENO, b"plan_aht_channel: "),
+        15 => io::write_all(STDOUT_FILENO, b"write_aht_channel: "),
+        16 => io::write_all(STDOUT_FILENO, b"read_aht_channel: "),
         _ => io::write_all(STDOUT_FILENO, b"no function: "),
     }
 }

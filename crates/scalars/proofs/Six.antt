@@ -1,7 +1,7 @@
 -- The loop over the six codes of a bin: what is known before each turn, and what a turn does. Assumes nothing.
 use Prim.Native.Nat.{ℕ, zero, suc, _+_, _-_, _*_, _≤_, _<_}
 use mathlib.Core.Path.{_≡_, refl, sym, ap, _∙_}
-use mathlib.Core.List.{List, [], _∷_, _++_, map, map-append, append-assoc, append-nil}
+use mathlib.Core.List.{List, [], _∷_, _++_, map, append-assoc, append-nil}
 use mathlib.Core.Bool.{Bool}
 use native.Mathlib.Omega.{arith}
 use lib.IntN.{ℤ}
@@ -10,7 +10,8 @@ use lib.ListN.{length, drop, set, replicate, length-append, length-map, drop-of-
 use Rattle.bits.specs.Bits.{bitsOf, bitAt, splice, Inside}
 use Rattle.bits.specs.Format.{Got, got, refused, andThen, Format, each-Ok, each-dec, resume}
 use Rattle.bits.specs.declared.BitPos.{BitPos}
-use Rattle.bits.proofs.Laws.{splice-none, splice-one, splice-more, length-splice}
+use Rattle.bits.proofs.Laws.{splice-none, length-splice}
+use Rattle.bits.proofs.Copying.{put-more}
 use Rattle.bits.proofs.Lawful.{each-lawful, resume-none, resume-next, resume-stop, resume-done}
 use Rattle.bits.proofs.Reading.{pos-is}
 use Rattle.tables.specs.Tables.{mantBits}
@@ -39,18 +40,6 @@ module _ (F : Format Code) (n : ℕ) (bs : List Bool) where
 there-none : (F : Format Code) (bs : List Bool) → codesThere F 0 bs ≡ []
 unfolding codesThere
 there-none F bs = refl
-
--- a list in which so many values stand from a place on, and one more
-put-more : {A B : Type 0} (f : A → B) (v : List B) (at : ℕ) (cs : List A) (c : A) → at + length cs < length v
-    → set (splice v at (map f cs)) (at + length cs) (f c) ≡ splice v at (map f (cs ++ (c ∷ [])))
-put-more f v at cs c h =
-    let k = length-map cs f in
-    let l : length (splice v at (map f cs)) ≡ length v = length-splice v (map f cs) at (omega arith) in
-    let room : at + (length (map f cs) + length (f c ∷ [])) ≤ length v = omega arith in
-    sym (splice-one (splice v at (map f cs)) (at + length cs) (f c) (omega arith))
-    ∙ ap (λ (n : ℕ). splice (splice v at (map f cs)) (at + n) (f c ∷ [])) (sym k)
-    ∙ splice-more v (map f cs) (f c ∷ []) at room
-    ∙ ap (splice v at) (sym (map-append f cs (c ∷ [])))
 
 module _ (h g at : ℕ) (s : List ℕ) (start : ℕ) (v : List Float) (x : List ℤ) where
   abbrev one : ℕ → Format Code
@@ -148,7 +137,7 @@ unfolding splice
 splice-whole l new e = let h : length l ≤ 0 + length new = omega arith in rw (drop-of-length-le l h, append-nil)
 
 -- the codes of a bin that is there are all the codes that are there
-all-there : (F : Format Code) (n : ℕ) (bs rest : List Bool) (cs : List Code) → each-dec (λ (k : ℕ). F) (replicate n 0) bs ≡ got cs rest → codesThere F n bs ≡ cs
+pub all-there : (F : Format Code) (n : ℕ) (bs rest : List Bool) (cs : List Code) → each-dec (λ (k : ℕ). F) (replicate n 0) bs ≡ got cs rest → codesThere F n bs ≡ cs
 unfolding each-dec codesThere
 all-there F zero bs rest cs e = let q : [] ≡ cs = cc in q
 all-there F (suc n) bs rest cs e = first (λ mid rest′ ds u. all-there F n mid rest′ ds u) (F .dec bs) refl e

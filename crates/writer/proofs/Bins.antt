@@ -2,7 +2,7 @@
 use Prim.Native.Nat.{ℕ, zero, suc, _+_, _-_, _*_, _/_, _≤_, _<_}
 use mathlib.Core.Path.{_≡_, refl, ap, _∙_}
 use mathlib.Core.Bool.{Bool, true, false, cond}
-use mathlib.Core.List.{List, [], _++_}
+use mathlib.Core.List.{List, [], _∷_, _++_}
 use native.Mathlib.Nat.{one-mul}
 use native.Mathlib.Omega.{arith}
 use lib.ListN.{length, getD, take, drop, length-append}
@@ -15,7 +15,7 @@ use Rattle.bits.proofs.Laws.{length-bitsN}
 use Rattle.tables.specs.Tables.{vqBits}
 use Rattle.gains.specs.Gains.{active, wordBits, sections, gainWordBits}
 use Rattle.books.specs.Books.{searchOf}
-use Rattle.field.specs.Field.{groupWords, gainWords, scalar, codes, item, itemBits, binOf, headOr1, binsOf}
+use Rattle.field.specs.Field.{partOf, groupWords, gainWords, Bin, scalar, codes, item, itemBits, binOf, headOr1, binsOf}
 use Rattle.field.proofs.Bits.{item-sized}
 use Rattle.field.proofs.Same.{by-bin}
 use Rattle.writer.specs.Written.{sixOf, codesOf, itemOf, itemsFrom}
@@ -45,6 +45,24 @@ unfolding number
 item-long mode h g v six =
     by-bin (λ b. length (item b .enc (itemOf b v)) ≡ itemBits b (itemOf b v)) mode h g refl (λ l u. length-bitsN (vqBits h) (searchOf h v))
     (λ g a. item-sized (scalar h g) (codes (codesOf h g v)) (codes-ok h g (a .0) (a .1) 6 v six, refl))
+
+-- the bins of a row from the bin k on, where n gains are used up before it and m by it
+pub bins-first : (mode : ℕ) (row gs : List ℕ) (end k n m h g : ℕ) → k < end → end ≤ length row → h ≡ getD row k 0 → g ≡ headOr1 (drop n gs) → m ≡ cond (active mode h) 1 0
+    → binsOf mode (partOf row k end) (drop n gs) ≡ binOf mode h g ∷ binsOf mode (partOf row (k + 1) end) (drop (n + m) gs)
+unfolding binsOf
+bins-first mode row gs end k n m h g u l eh eg em =
+    let a : end - k ≡ suc (end - (k + 1)) = omega arith in
+    let s : suc k ≡ k + 1 = omega arith in
+    let h′ = getD row k 0 in
+    let b = binOf mode h′ (headOr1 (drop n gs)) in
+    rw (eg, em, eh) (ap (λ (t : ℕ). binsOf mode (take t (drop k row)) (drop n gs)) a
+    ∙ ap (λ (p : List ℕ). binsOf mode p (drop n gs)) (part-first row k (end - (k + 1)) (omega arith))
+    ∙ ap (λ (r : ℕ). b ∷ binsOf mode (take (end - (k + 1)) (drop r row)) (cond (active mode h′) (drop 1 (drop n gs)) (drop n gs))) s
+    ∙ ap (λ (v : List ℕ). b ∷ binsOf mode (partOf row (k + 1) end) v) (go (active mode h′)))
+  where
+    go : (t : Bool) → cond t (drop 1 (drop n gs)) (drop n gs) ≡ drop (n + cond t 1 0) gs
+    go true = drop-drop 1 n gs
+    go false = let z : n ≡ n + 0 = omega arith in ap (λ (r : ℕ). drop r gs) z
 
 -- the bins of a part of the row whose first is the bin k
 abbrev pub binsBits : ℕ → List ℕ → List ℕ → List Float → ℕ → List Bool
@@ -81,19 +99,13 @@ module _ (mode : ℕ) (row : List ℕ) (x : List Float) where
   -- a turn, where m gains are used up
   pub bins-next : (end k n m h g : ℕ) (gs : List ℕ) → k < end → end ≤ length row → h ≡ getD row k 0 → g ≡ headOr1 (drop n gs) → m ≡ cond (active mode h) 1 0 → let b = binOf mode h g in
       binsBits mode (take (end - k) (drop k row)) (drop n gs) x k ≡ item b .enc (itemOf b (sixOf x k)) ++ binsBits mode (take (end - (k + 1)) (drop (k + 1) row)) (drop (n + m) gs) x (k + 1)
+  unfolding itemsFrom each-enc
   bins-next end k n m h g gs u l eh eg em =
-      let a : end - k ≡ suc (end - (k + 1)) = omega arith in
       let s : suc k ≡ k + 1 = omega arith in
-      let h′ = getD row k 0 in
-      let b = binOf mode h′ (headOr1 (drop n gs)) in
-      let bits = item b .enc (itemOf b (sixOf x k)) in
-      rw (eg, em, eh) (ap (λ (t : ℕ). binsBits mode (take t (drop k row)) (drop n gs) x k) a ∙ bits-first (end - (k + 1)) k (drop n gs) (omega arith)
-      ∙ ap (λ (r : ℕ). bits ++ binsBits mode (take (end - (k + 1)) (drop r row)) (cond (active mode h′) (drop 1 (drop n gs)) (drop n gs)) x r) s
-      ∙ ap (λ (v : List ℕ). bits ++ binsBits mode (take (end - (k + 1)) (drop (k + 1) row)) v x (k + 1)) (go (active mode h′)))
-    where
-      go : (t : Bool) → cond t (drop 1 (drop n gs)) (drop n gs) ≡ drop (n + cond t 1 0) gs
-      go true = drop-drop 1 n gs
-      go false = let z : n ≡ n + 0 = omega arith in ap (λ (r : ℕ). drop r gs) z
+      let b = binOf mode h g in
+      let rest = binsOf mode (partOf row (k + 1) end) (drop (n + m) gs) in
+      ap (λ (bs : List Bin). each item bs .enc (itemsFrom bs x k)) (bins-first mode row gs end k n m h g u l eh eg em)
+      ∙ ap (λ (j : ℕ). item b .enc (itemOf b (sixOf x k)) ++ each item rest .enc (itemsFrom rest x j)) s
 
   pub bins-end : (end k : ℕ) (gs : List ℕ) → end ≤ k → binsBits mode (take (end - k) (drop k row)) gs x k ≡ []
   unfolding binsOf itemsFrom each-enc

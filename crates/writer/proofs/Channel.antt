@@ -22,7 +22,7 @@ use Rattle.levels.proofs.CodeLaws.{accepted-coded}
 use Rattle.books.proofs.First.{search-first}
 use Rattle.quantiser.specs.Quantise.{picked, codesBits}
 use Rattle.quantiser.proofs.Facts.{picked-accepted}
-use Rattle.field.specs.Field.{scalar, codes, item, codedAs, binOf, activeBins, headOr1, binsOf, field, itemBits, fieldBits}
+use Rattle.field.specs.Field.{partOf, scalar, codes, item, codedAs, binOf, activeBins, headOr1, binsOf, field, itemBits, fieldBits}
 use Rattle.field.proofs.Laws.{field-lawful}
 use Rattle.field.proofs.Bits.{field-sized}
 use Rattle.field.proofs.Same.{by-bin}
@@ -33,7 +33,7 @@ use Rattle.planner.specs.Planning.{unknownAt, tooLargeAt}
 use Rattle.planner.proofs.Over.{sum-none, sum-next}
 use Rattle.planner.proofs.Optimal.{rank-lt}
 use Rattle.planner.proofs.Codes.{six-codes}
-use Rattle.writer.specs.Written.{partOf, sixOf, codesOf, itemOf, itemsFrom, channelOf}
+use Rattle.writer.specs.Written.{sixOf, codesOf, itemOf, itemsFrom, channelOf}
 use Rattle.writer.proofs.Runs.{sum-first, none-there, part-first, none-active, active-part, known-hebap}
 use Rattle.writer.proofs.Allowed.{gains-ok}
 
@@ -53,7 +53,7 @@ item-ok mode h g v six fine =
 pub six-long : (x : List Float) (k : ℕ) → 6 * k + 6 ≤ length x → length (sixOf x k) ≡ 6
 six-long x k l = length-take-le 6 (drop (6 * k) x) (rw length-drop (omega arith))
 
-six-fine : (row : List ℕ) (x : List Float) (k : ℕ) → 6 * k + 6 ≤ length x → tooLargeAt row x k ≡ false → 1 ≤ getD row k 0 → someTooLarge (sixOf x k) ≡ false
+pub six-fine : (row : List ℕ) (x : List Float) (k : ℕ) → 6 * k + 6 ≤ length x → tooLargeAt row x k ≡ false → 1 ≤ getD row k 0 → someTooLarge (sixOf x k) ≡ false
 unfolding tooLargeAt
 six-fine row x k l o p = rw (ne-eqb (getD row k 0) 0 (λ e. omega arith)) at o
 
@@ -101,7 +101,7 @@ module _ (mode : ℕ) (gains row : List ℕ) (x : List Float) (start end : ℕ) 
   abbrev rank : ℕ → ℕ
   rank k = activeCount mode row start k
 
-  own-gain : (k : ℕ) → start ≤ k → k < end → cond (active mode (getD row k 0)) (headOr1 (drop (rank k) gains)) 1 ≡ gainAt mode gains row start k
+  pub own-gain : (k : ℕ) → start ≤ k → k < end → cond (active mode (getD row k 0)) (headOr1 (drop (rank k) gains)) 1 ≡ gainAt mode gains row start k
   unfolding gainAt
   own-gain k l u = go (active mode (getD row k 0)) refl
     where
@@ -112,7 +112,7 @@ module _ (mode : ℕ) (gains row : List ℕ) (x : List Float) (start end : ℕ) 
           ap headOr1 (drop-cons gains (rank k) 0 (omega arith))
       go false e = refl
 
-  next-gains : (k : ℕ) → start ≤ k → cond (active mode (getD row k 0)) (drop 1 (drop (rank k) gains)) (drop (rank k) gains) ≡ drop (rank (suc k)) gains
+  pub next-gains : (k : ℕ) → start ≤ k → cond (active mode (getD row k 0)) (drop 1 (drop (rank k) gains)) (drop (rank k) gains) ≡ drop (rank (suc k)) gains
   unfolding activeCount activeAt
   next-gains k l = go (active mode (getD row k 0)) ∙ ap (λ (r : ℕ). drop r gains) (sym (sum-next (activeAt mode row) start k l))
     where

@@ -7,3 +7,4 @@ pub mod GainBits
 pub mod Words
 pub mod Items
 pub mod Bins
+pub mod Call

@@ -9,13 +9,12 @@ use lib.Seq.{drop-cons}
 use lib.Ieee.{Float}
 use Rattle.gains.specs.Gains.{active}
 use Rattle.levels.specs.Component.{tooLarge, someTooLarge}
-use Rattle.field.specs.Field.{activeBins}
+use Rattle.field.specs.Field.{partOf, activeBins}
 use borrow.Author.Tests.{ltb-false}
 use Rattle.planner.specs.Bins.{sumOver, someOver}
 use Rattle.planner.specs.Planning.{unknownAt}
 use Rattle.planner.specs.Choice.{activeAt, activeCount}
 use Rattle.planner.proofs.Over.{sum-none, sum-next, some-found}
-use Rattle.writer.specs.Written.{partOf}
 
 -- ---- places
 sum-last : (f : ℕ → ℕ) (a n : ℕ) → sumOver f a (a + suc n) ≡ sumOver f a (a + n) + f (a + n)

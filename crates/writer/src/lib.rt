@@ -6,18 +6,21 @@ ghost use mathlib.Core.Bool.{false, cond};
 ghost use Rattle.bits.specs.Format.{each, sizes};
 ghost use Rattle.gains.specs.Gains.{active, gainWordBits};
 ghost use Rattle.planner.specs.Bins.{someOver};
-ghost use Rattle.planner.specs.Planning.{unknownAt};
+ghost use Rattle.planner.specs.Planning.{unknownAt, tooLargeAt};
+ghost use Rattle.planner.specs.Choice.{choiceBits, Choice};
+ghost use Rattle.planner.specs.Work.{Within};
 ghost use Rattle.bits.specs.Bits.{bitsN, bitAt, posOf, bytesWith};
 ghost use Rattle.tables.specs.Tables.{mantBits, vqBits};
 ghost use Rattle.levels.specs.Codes.{codeBits, coded, six, Accepted};
 ghost use Rattle.books.specs.Books.{searchOf};
 ghost use Rattle.quantiser.specs.Quantise.{codesBits};
-ghost use Rattle.field.specs.Field.{gainCode, packed, groupWords, gainWords, item, itemBits, binOf, headOr1, binsOf};
-ghost use Rattle.writer.specs.Written.{partOf, codesOf, itemOf, itemsFrom};
+ghost use Rattle.field.specs.Field.{partOf, gainCode, packed, groupWords, gainWords, item, itemBits, binOf, headOr1, binsOf, field};
+ghost use Rattle.writer.specs.Written.{codesOf, itemOf, itemsFrom, channelOf, channelWrite, channelWritten};
 use bits::BitPos;
 use bits::BitWrite;
 use gains::Coding;
 use levels::Code;
+use planner::Plan;
 
 // The low n bits of v, where there is room for them; the position behind them.
 fn put(out: &mut [u8], p: BitPos, v: u32, n: u32) -> BitPos
@@ -129,7 +132,7 @@ fn word_at(gains: &[u8], i: usize) -> u32
 
 // Mode 3: a word of five bits for three gains.
 fn write_group_words(out: &mut [u8], p: BitPos, gains: &[u8]) -> BitPos
-    requires { ⌜ p ≡ posOf (bitAt p) ⌝ }
+    requires { ⌜ p .bit < 8 ⌝ }
     requires { ⌜ length (now gains) ≤ 256 ⌝ }
     requires { ⌜ bitAt p + 5 * ((length (now gains) + 2) / 3) ≤ 8 * length (now out) ⌝ }
     ensures { λ r. ⌜ r ≡ posOf (bitAt p + 5 * ((length (now (gains .entry)) + 2) / 3)) ⌝ }
@@ -189,7 +192,6 @@ fn write_gains(out: &mut [u8], p: BitPos, mode: u8, gains: &[u8]) -> BitPos
     requires { ⌜ mode ≤ 3 ⌝ }
     requires { ⌜ p .bit < 8 ⌝ }
     requires { ⌜ length (now gains) ≤ 256 ⌝ }
-    requires { ⌜ (mode ≡ 0 → length (now gains) ≡ 0) ⌝ }
     requires { ⌜ bitAt p + gainWordBits mode (length (now gains)) ≤ 8 * length (now out) ⌝ }
     ensures { λ r. ⌜ r ≡ posOf (bitAt p + gainWordBits mode (length (now (gains .entry)))) ⌝ }
     ensures { λ r. ⌜ now (out .exit) ≡ bytesWith (now (out .entry)) (bitAt p) (gainWords mode (length (now (gains .entry))) .enc (now (gains .entry))) ⌝ }
@@ -202,7 +204,7 @@ fn write_gains(out: &mut [u8], p: BitPos, mode: u8, gains: &[u8]) -> BitPos
 }
 
 // The gain at the place n; 1 behind the last.
-fn gain_at(gains: &[u8], n: usize) -> u8
+pub fn gain_at(gains: &[u8], n: usize) -> u8
     ensures { λ r. ⌜ r ≡ headOr1 (drop n (now (gains .entry))) ⌝ }
 {
     if n < gains.len() {
@@ -212,7 +214,7 @@ fn gain_at(gains: &[u8], n: usize) -> u8
 }
 
 // How many gains a bin uses up.
-fn gains_used(mode: u8, hebap: u8) -> usize
+pub fn gains_used(mode: u8, hebap: u8) -> usize
     ensures { λ r. ⌜ r ≡ cond (active mode hebap) 1 0 ⌝ }
 {
     if gains::is_active(mode, hebap) {
@@ -261,4 +263,80 @@ fn write_bins(
         bin += 1;
     }
     q
+}
+
+// The field of a choice, where there is room for it; the position behind it.
+fn write_field(
+    out: &mut [u8],
+    p: BitPos,
+    mode: u8,
+    gains: &[u8],
+    row: &[u8],
+    start: usize,
+    end: usize,
+    x: &[f32],
+    room: &mut [i16],
+) -> BitPos
+    requires { ⌜ Within (now row) start end (now x) ⌝ }
+    requires { ⌜ (someOver (unknownAt (now row)) start end ≡ false) × (someOver (tooLargeAt (now row) (now x)) start end ≡ false) ⌝ }
+    requires { ⌜ Choice mode (now gains) (now row) start end ⌝ }
+    requires { ⌜ length (now room) ≡ 3072 ⌝ }
+    requires { ⌜ bitAt p + choiceBits mode (now gains) (now row) (now x) start end ≤ 8 * length (now out) ⌝ }
+    ensures { λ r. ⌜ r ≡ posOf (bitAt p + choiceBits mode (now (gains .entry)) (now (row .entry)) (now (x .entry)) start end) ⌝ }
+    ensures { λ r. ⌜ now (out .exit) ≡ bytesWith (now (out .entry)) (bitAt p) (field (partOf (now (row .entry)) start end) .enc (channelOf (now (row .entry)) (now (x .entry)) start end mode (now (gains .entry)))) ⌝ }
+{
+    let q = put(&mut *out, p, mode as u32, 2);
+    let r = write_gains(&mut *out, q, mode, gains);
+    write_bins(out, r, mode, row, start, end, x, gains, room)
+}
+
+// The same; lends the room for the books.
+fn write_choice(
+    out: &mut [u8],
+    p: BitPos,
+    mode: u8,
+    gains: &[u8],
+    row: &[u8],
+    start: usize,
+    end: usize,
+    x: &[f32],
+) -> BitPos
+    requires { ⌜ Within (now row) start end (now x) ⌝ }
+    requires { ⌜ (someOver (unknownAt (now row)) start end ≡ false) × (someOver (tooLargeAt (now row) (now x)) start end ≡ false) ⌝ }
+    requires { ⌜ Choice mode (now gains) (now row) start end ⌝ }
+    requires { ⌜ bitAt p + choiceBits mode (now gains) (now row) (now x) start end ≤ 8 * length (now out) ⌝ }
+    ensures { λ r. ⌜ r ≡ posOf (bitAt p + choiceBits mode (now (gains .entry)) (now (row .entry)) (now (x .entry)) start end) ⌝ }
+    ensures { λ r. ⌜ now (out .exit) ≡ bytesWith (now (out .entry)) (bitAt p) (field (partOf (now (row .entry)) start end) .enc (channelOf (now (row .entry)) (now (x .entry)) start end mode (now (gains .entry)))) ⌝ }
+{
+    let mut room = [0i16; 3072];
+    write_field(out, p, mode, gains, row, start, end, x, &mut room)
+}
+
+// The field of the plan goes to the output from the position on. Refuses with 1 to 5, then 6, then 7; a refusal leaves the output as it was.
+pub fn write_aht_channel(
+    plan: Plan,
+    hebap: &[u8],
+    start: usize,
+    end: usize,
+    x: &[f32],
+    out: &mut [u8],
+    pos: BitPos,
+) -> BitWrite
+    ensures { λ r. ⌜ r ≡ channelWrite plan (now (hebap .entry)) start end (now (x .entry)) (now (out .entry)) (bitAt pos) ⌝ }
+    ensures { λ r. ⌜ now (out .exit) ≡ channelWritten plan (now (hebap .entry)) start end (now (x .entry)) (now (out .entry)) (bitAt pos) ⌝ }
+{
+    let cause = planner::cause(hebap, start, end, x);
+    if cause != 0 {
+        return BitWrite::Refused(cause);
+    }
+    if !planner::plan_fits(plan, hebap, start, end, x) {
+        return BitWrite::Refused(6);
+    }
+    if !pos.holds(out.len(), 1, 2 + plan.payload as usize) {
+        return BitWrite::Refused(7);
+    }
+    let mode = plan.mode;
+    let count = plan.count;
+    let gains = plan.gains;
+    BitWrite::Done(write_choice(out, pos, mode, &gains[..count], hebap, start, end, x))
 }

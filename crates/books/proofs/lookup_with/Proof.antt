@@ -5,7 +5,8 @@ use native.Mathlib.Nat.{mod-lt}
 use lib.ListN.{length}
 use Rattle.tables.specs.Tables.{book, vqBits}
 use Rattle.books.specs.Books.{vqLookup, sixAt}
-use Rattle.books.proofs.Laws.{HasBook, no-book, has-book, same-six, longer}
+use Rattle.books.proofs.Laws.{HasBook, no-book, has-book, longer}
+use Rattle.books.proofs.Vectors.{same-six}
 use native.Mathlib.Omega.{arith}
 use borrow.Author.Needs.{needs}
 use Rattle.books.proofs.lookup_with.Statement.{statement}

@@ -7,9 +7,9 @@ use denote.Ref.{now}
 use lib.ListN.{length, getD, drop}
 use Rattle.bits.specs.Bits.{bitAt}
 use Rattle.gains.specs.Gains.{active}
-use Rattle.field.specs.Field.{item, binOf}
+use Rattle.field.specs.Field.{partOf, item, binOf}
 use Rattle.planner.proofs.Steps.{one-small}
-use Rattle.writer.specs.Written.{partOf, sixOf, itemOf}
+use Rattle.writer.specs.Written.{sixOf, itemOf}
 use Rattle.writer.proofs.Turns.{own}
 use Rattle.writer.proofs.Words.{Left, left-all, left-room, left-next, left-none}
 use Rattle.writer.proofs.Channel.{six-long}

@@ -17,14 +17,14 @@ write-group-words-requires c κs =
     let s = c .before .before .before .before in
     let a = s .args in
     let e : a .mode ≡ 3 = omega arith in
-    (own (a .p) (s .pre .1 .0), (s .pre .1 .1 .0, rw (words-three (a .mode) (length (now (a .gains))) (now (a .gains)) e .0) at (s .pre .1 .1 .1 .1)))
+    (s .pre .1 .0, (s .pre .1 .1 .0, rw (words-three (a .mode) (length (now (a .gains))) (now (a .gains)) e .0) at (s .pre .1 .1 .1)))
 
 write-gain-bits-requires : tie.Need-write-gain-bits-requires
 write-gain-bits-requires c κs =
     let s = c .before .before .before .before in
     let a = s .args in
     let m : (1 ≤ a .mode) × (a .mode ≤ 2) = (omega arith, omega arith) in
-    (m, (s .pre .1 .0, rw (words-other (a .mode) (length (now (a .gains))) m) at (s .pre .1 .1 .1 .1)))
+    (m, (s .pre .1 .0, rw (words-other (a .mode) (length (now (a .gains))) m) at (s .pre .1 .1 .1)))
 
 returns : tie.Need-returns
 returns c =

@@ -8,6 +8,7 @@ use borrow.Author.Needs.{needs}
 use lib.ListN.{length, drop}
 use Rattle.bits.specs.Bits.{bitsN, bitAt}
 use Rattle.bits.proofs.Laws.{length-bitsN}
+use Rattle.writer.proofs.Turns.{own}
 use Rattle.writer.proofs.Words.{Left, left-all, left-room, left-next, left-none, wordsFor, words-next, words-long, words-end}
 use Rattle.writer.proofs.write_group_words.Statement.{statement}
 use Rattle.writer.proofs.write_group_words.Tie as tie
@@ -35,7 +36,7 @@ loop-holds : tie.Need-loop-holds Inv-loop μ-loop
 loop-holds c =
     let s = c .before .before in
     let a = s .args in
-    left-all (now (a .out)) (a .p) (wordsFor (now (a .gains))) (λ i k. omega (arith, c .before .slice-known .given i)) (s .pre .0)
+    left-all (now (a .out)) (a .p) (wordsFor (now (a .gains))) (λ i k. omega (arith, c .before .slice-known .given i)) (own (a .p) (s .pre .0))
 
 word-at-requires : tie.Need-word-at-requires Inv-loop μ-loop
 word-at-requires c κs = search needs

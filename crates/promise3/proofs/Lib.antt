@@ -1,0 +1,10 @@
+pub mod Refusals
+pub mod Places
+pub mod Calls
+pub mod Same
+pub mod Bins
+pub mod Plans
+pub mod Trips
+pub mod Promise
+pub mod Cases
+pub mod Points

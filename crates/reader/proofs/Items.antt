@@ -1,0 +1,63 @@
+-- What the item of a bin puts in the outputs: six values, six exact values and an index. Assumes nothing.
+use Prim.Native.Nat.{ℕ, _+_, _*_, _^_, _≤_, _<_}
+use mathlib.Core.Path.{_≡_, refl, sym, ap, _∙_}
+use mathlib.Core.Bool.{Bool}
+use mathlib.Core.List.{List, [], _∷_, map}
+use native.Mathlib.Omega.{arith}
+use lib.IntN.{ℤ}
+use lib.Ieee.{Float}
+use lib.ListN.{length, set, replicate, length-replicate, replicate-append-replicate}
+use lib.Pow.{pow-mono}
+use Rattle.bits.specs.Bits.{splice}
+use Rattle.bits.specs.Format.{Got, got, refused, andThen, number}
+use Rattle.bits.proofs.Laws.{splice-one, splice-more, length-splice}
+use Rattle.bits.proofs.Lawful.{number-lawful}
+use Rattle.tables.specs.Tables.{mantBits, vqBits}
+use Rattle.tables.proofs.Rules.{vq-most}
+use Rattle.levels.specs.declared.Code.{Code}
+use Rattle.levels.specs.Codes.{coded, six}
+use Rattle.levels.specs.Exact.{exactOf}
+use Rattle.levels.specs.Value.{valueOf}
+use Rattle.scalars.specs.declared.ScalarResult.{ScalarResult}
+use Rattle.scalars.specs.Scalars.{scalarAnswer, sixValues, sixExacts}
+use Rattle.scalars.proofs.Six.{all-there}
+use Rattle.field.specs.Field.{Bin, scalar, Item, codes, item}
+use Rattle.field.specs.Shown.{valuesOf, exactsOf, indexOf}
+use Rattle.reader.specs.Reading.{WhenGot}
+
+-- a list in which an element stands j times from a place on, and once more
+pub alike-more : {A : Type 0} (v : List A) (at j : ℕ) (a : A) → at + j < length v → set (splice v at (replicate j a)) (at + j) a ≡ splice v at (replicate (j + 1) a)
+alike-more v at j a h =
+    let k = length-replicate j a in
+    let l : length (splice v at (replicate j a)) ≡ length v = length-splice v (replicate j a) at (omega arith) in
+    let room : at + (length (replicate j a) + length (a ∷ [])) ≤ length v = omega arith in
+    sym (splice-one (splice v at (replicate j a)) (at + j) a (omega arith))
+    ∙ ap (λ (n : ℕ). splice (splice v at (replicate j a)) (at + n) (a ∷ [])) (sym k)
+    ∙ splice-more v (replicate j a) (a ∷ []) at room
+    ∙ ap (splice v at) (replicate-append-replicate j 1 a)
+
+-- the outputs with the item x of a bin at the bin k's places
+abbrev pub Put : Bin → ℕ → List Float → List Float → List ℤ → List ℤ → List ℕ → List ℕ → Item → Type 0
+Put b k v v′ e e′ i i′ x = (v′ ≡ splice v (6 * k) (valuesOf b x)) × (e′ ≡ splice e (6 * k) (exactsOf b x)) × (i′ ≡ splice i k (indexOf b x ∷ []))
+
+-- an index has at most nine bits
+pub index-small : (h i : ℕ) (bs rest : List Bool) → number (vqBits h) .dec bs ≡ got i rest → i < 512
+unfolding number
+index-small h i bs rest e =
+    let l : i < 2 ^ vqBits h = number-lawful (vqBits h) .sole bs rest i e .1 in
+    let m : 2 ^ vqBits h ≤ 2 ^ 9 = pow-mono (vq-most h) in
+    omega arith
+
+-- six codes: what read_six leaves is what their item shows
+pub codes-put : (h g k n : ℕ) (bs : List Bool) (v v′ : List Float) (e e′ : List ℤ) (i : List ℕ) (r : ScalarResult) → k < length i
+    → r ≡ scalarAnswer n (six (mantBits h) g .dec bs) → v′ ≡ sixValues h g (6 * k) bs v → e′ ≡ sixExacts h g (6 * k) bs e
+    → (r ≡ scalarAnswer n (item (scalar h g) .dec bs)) × WhenGot (item (scalar h g) .dec bs) (Put (scalar h g) k v v′ e e′ i (set i k 0))
+unfolding sixValues sixExacts
+codes-put h g k n bs v v′ e e′ i r l a av ae = go (six (mantBits h) g .dec bs) refl a
+  where
+    go : (G : Got (List Code)) → six (mantBits h) g .dec bs ≡ G → r ≡ scalarAnswer n G
+        → let I = andThen G (λ cs rest. got (codes cs) rest) in (r ≡ scalarAnswer n I) × WhenGot I (Put (scalar h g) k v v′ e e′ i (set i k 0))
+    go (got cs rest) d q =
+        let t = all-there (coded (mantBits h) g) 6 bs rest cs d in
+        (q, (av ∙ ap (λ (l : List Code). splice v (6 * k) (map (valueOf h g) l)) t, ae ∙ ap (λ (l : List Code). splice e (6 * k) (map (exactOf h g) l)) t, sym (splice-one i k 0 l)))
+    go (refused j) d q = (q, tt)

@@ -1,0 +1,371 @@
+//! Writer and channel reader: whole fields written, read back, damaged, cut and made up.
+use crate::eac3::{aht, ahtenc};
+use crate::ours;
+use crate::random::Random;
+use crate::shown::{self, Shown};
+use crate::signals::{bin_of, cause, channel, nudged, vectors};
+use crate::Tally;
+use oxideav_core::bits::BitWriter;
+
+pub fn run(seed: u64, all: &mut Tally) {
+    written(&mut Random::new(seed + 20), all);
+    refused(&mut Random::new(seed + 21), all);
+    damaged(&mut Random::new(seed + 22), all);
+    cut(&mut Random::new(seed + 23), all);
+    outputs(&mut Random::new(seed + 24), all);
+}
+
+/// A channel of few bins mostly, of up to 256 at times.
+fn some_channel(random: &mut Random) -> (Vec<u8>, Vec<f32>, usize, usize) {
+    let bins = match random.below(16) {
+        0 => random.below(257),
+        1 => 256 - random.below(3),
+        _ => random.below(14),
+    };
+    let (row, x) = channel(random, bins);
+    let start = if random.below(3) == 0 { random.below(bins + 1) } else { 0 };
+    let end = start + if random.below(3) == 0 { random.below(bins - start + 1) } else { bins - start };
+    (row, x, start, end)
+}
+
+/// The Rust's plan, or a mode and gains drawn at will with the bits that the Rust's codes have.
+fn some_plan(random: &mut Random, row: &[u8], start: usize, end: usize, x: &[f32]) -> ahtenc::AhtChannelPlan {
+    if random.below(2) == 0 {
+        return ahtenc::plan_aht_channel(row, start, end, &vectors(x));
+    }
+    let mode = random.below(4) as u8;
+    let allowed: &[u8] = [&[0u8][..], &[0, 1], &[0, 2], &[0, 1, 2]][mode as usize];
+    let (mut gains, mut bits) = (Vec::new(), 0);
+    for k in start..end {
+        let v: [f32; 6] = x[6 * k..6 * k + 6].try_into().unwrap();
+        bits += match row[k] {
+            0 => 0,
+            h @ 1..=7 => u32::from(aht::VQ_BITS[h as usize]),
+            h => {
+                let active = mode > 0 && h < aht::endbap_for_gaqmod(mode);
+                if active {
+                    gains.push(random.pick(allowed));
+                }
+                let gk = if active { [1, 2, 4][*gains.last().unwrap() as usize] } else { 1 };
+                bin_of(h, gk, &v).0
+            }
+        };
+    }
+    let words = aht::gaq_sections(mode, gains.len()) as u32 * if mode == 3 { 5 } else { 1 };
+    ahtenc::AhtChannelPlan { gaqmod: mode, gains, payload_bits: bits + words }
+}
+
+/// The same plan as the library has it; the places that no gain uses hold anything.
+fn plan_of(random: &mut Random, p: &ahtenc::AhtChannelPlan) -> ours::Plan {
+    let mut gains = [0u8; 256];
+    for (i, g) in gains.iter_mut().enumerate() {
+        *g = p.gains.get(i).map_or_else(|| random.below(256) as u8, |&code| [1, 2, 4][code as usize]);
+    }
+    ours::Plan { mode: p.gaqmod, gains, count: p.gains.len(), payload: p.payload_bits }
+}
+
+/// The bits of the Rust's field, put into the bytes from a position on.
+fn with_field(bytes: &[u8], at: usize, p: &ahtenc::AhtChannelPlan, row: &[u8], start: usize, end: usize, x: &[f32]) -> (Vec<u8>, usize) {
+    let mut w = BitWriter::new();
+    ahtenc::write_aht_channel(&mut w, p, row, start, end, &vectors(x));
+    let n = w.bits();
+    let field = w.finish();
+    let mut out = bytes.to_vec();
+    for i in 0..n {
+        let bit = field[i / 8] >> (7 - i % 8) & 1;
+        let byte = &mut out[(at + i) / 8];
+        let mask = 1 << (7 - (at + i) % 8);
+        *byte = if bit == 1 { *byte | mask } else { *byte & !mask };
+    }
+    (out, n)
+}
+
+/// Lent outputs with a pattern in them, for bins up to `end` and some more.
+fn patterned(random: &mut Random, end: usize) -> ours::Outputs {
+    let (a, b, c) = (random.below(3), random.below(3), random.below(3));
+    ours::Outputs {
+        // signalling NaNs, whose bits a copy must keep too
+        values: (0..6 * end + a).map(|i| f32::from_bits(0x7fa0_0001 + i as u32)).collect(),
+        exact: (0..6 * end + b).map(|i| 0x5a5a_0000 + i as i32).collect(),
+        indices: (0..end + c).map(|i| 0xa500 + i as u16).collect(),
+    }
+}
+
+/// Reads a field with the library and with the Rust's functions; every output is compared whole. Answers what was shown.
+fn read_both(t: &mut Tally, random: &mut Random, src: &[u8], at: usize, row: &[u8], start: usize, end: usize) -> Result<Shown, u8> {
+    let mut got = patterned(random, end);
+    let mut want = got.clone();
+    let mut answer = ours::Channel::filled();
+    let over = if random.below(7) == 0 { random.below(at / 8 + 1) } else { 0 };
+    let p = ours::Pos { byte: at / 8 - over, bit: (at % 8 + 8 * over) as u32 };
+    let refusal = ours::read_aht_channel(src, p, row, start, end, &mut got, &mut answer);
+    let theirs = shown::read(src, at, &row[start..end]);
+    let (number, mut expected) = (theirs.as_ref().err().copied().unwrap_or(0), ours::Channel::filled());
+    if let Ok(s) = &theirs {
+        expected = ours::Channel { mode: s.mode, gains: [0; 256], count: s.gains.len(), bits: s.bits as u32 };
+        expected.gains[..s.gains.len()].copy_from_slice(&s.gains);
+        want.values[6 * start..6 * end].copy_from_slice(&s.values);
+        want.exact[6 * start..6 * end].copy_from_slice(&s.exact);
+        want.indices[start..end].copy_from_slice(&s.indices);
+    }
+    let same = refusal == number
+        && answer == expected
+        && got.exact == want.exact
+        && got.indices == want.indices
+        && got.values.iter().map(|v| v.to_bits()).eq(want.values.iter().map(|v| v.to_bits()));
+    t.case(same, || format!("{src:?} at {at}, {row:?} {start} {end}: {refusal} {answer:?} {got:?}, not {number} {expected:?} {want:?}"));
+    theirs
+}
+
+/// Fields written with the Rust's plan and with others: every byte of the output, then what is read there.
+fn written(random: &mut Random, all: &mut Tally) {
+    let (mut w, mut r, mut b) = (Tally::of("write_aht_channel, written"), Tally::of("read_aht_channel, written"), Tally::of("read back: what was written"));
+    for _ in 0..120_000 {
+        let (row, x, start, end) = some_channel(random);
+        let rust = some_plan(random, &row, start, end, &x);
+        let (at, total) = (random.below(40), 2 + rust.payload_bits as usize);
+        let len = (at + total).div_ceil(8) + random.below(3);
+        let before = random.bytes(len);
+        let (want, n) = with_field(&before, at, &rust, &row, start, end, &x);
+        let mut out = before.clone();
+        let mut p = ours::Pos::of(at);
+        let refusal = ours::write_aht_channel(&plan_of(random, &rust), &row, start, end, &x, &mut out, &mut p);
+        w.case(refusal == 0 && n == total && out == want && p == ours::Pos::of(at + total), || {
+            format!("{row:?} {start} {end} {x:?} {rust:?} at {at}: {refusal} {out:?} {p:?}, not {want:?}")
+        });
+        let shown = read_both(&mut r, random, &out, at, &row, start, end);
+        // the plan, the search's indices and the quantiser's values come back
+        let back = shown.is_ok_and(|s| {
+            let gains: Vec<u8> = rust.gains.iter().map(|&c| [1, 2, 4][c as usize]).collect();
+            let mut next = gains.iter();
+            s.mode == rust.gaqmod
+                && s.gains == gains
+                && s.bits == total
+                && (start..end).all(|k| {
+                    let v: [f32; 6] = x[6 * k..6 * k + 6].try_into().unwrap();
+                    let (index, values) = match row[k] {
+                        0 => (0, [0.0; 6]),
+                        h @ 1..=7 => (ahtenc::vq_search(h, &v) as u16, aht::vq_lookup(h, ahtenc::vq_search(h, &v))),
+                        h => {
+                            let active = s.mode > 0 && h < aht::endbap_for_gaqmod(s.mode);
+                            (0, bin_of(h, if active { *next.next().unwrap() } else { 1 }, &v).2)
+                        }
+                    };
+                    s.indices[k - start] == index && s.values[6 * (k - start)..6 * (k - start) + 6].iter().map(|y| y.to_bits()).eq(values.iter().map(|y| y.to_bits()))
+                })
+        });
+        b.case(back, || format!("{row:?} {start} {end} {x:?} {rust:?} at {at}"));
+    }
+    w.close(all);
+    r.close(all);
+    b.close(all);
+}
+
+/// The writer's refusals, the lowest number first; every byte stays.
+fn refused(random: &mut Random, all: &mut Tally) {
+    let mut t = Tally::of("write_aht_channel, faults");
+    for _ in 0..60_000 {
+        let (mut row, mut x, mut start, mut end) = some_channel(random);
+        let rust = some_plan(random, &row, start, end, &x);
+        let total = 2 + rust.payload_bits as usize;
+        let at = random.below(20);
+        let mut plan = plan_of(random, &rust);
+        let mut len = (at + total).div_ceil(8);
+        let mut p = ours::Pos::of(at);
+        for _ in 0..1 + random.below(2) {
+            match random.below(13) {
+                0 => plan.mode = random.pick(&[4, 5, 255]),
+                1 => plan.count = random.pick(&[0, 1, 256, 257, usize::MAX, plan.count.wrapping_add(1), plan.count.wrapping_sub(1)]),
+                2 if plan.count > 0 && plan.count < 257 => plan.gains[random.below(plan.count)] = random.below(6) as u8,
+                3 => plan.payload = random.pick(&[0, u32::MAX, plan.payload.wrapping_add(1), plan.payload.wrapping_sub(1), 4711]),
+                4 => len = random.below(len + 1),
+                5 => p = random.pick(&[ours::Pos { byte: len, bit: 0 }, ours::Pos { byte: len + 1, bit: 0 }, ours::Pos { byte: usize::MAX, bit: u32::MAX }, ours::Pos { byte: 0, bit: u32::MAX }]),
+                6 if !row.is_empty() => {
+                    let k = random.below(row.len());
+                    row[k] = 20 + random.below(236) as u8;
+                }
+                7 if !x.is_empty() => {
+                    let k = random.below(x.len());
+                    x[k] = random.pick(&[f32::NAN, f32::INFINITY, nudged(1024.0, 1), -1e30]);
+                }
+                8 => x.truncate(random.below(x.len() + 1)),
+                9 => row.truncate(random.below(row.len() + 1)),
+                10 => start = random.pick(&[end, end + 1, 255, 257, usize::MAX]),
+                11 => end = random.pick(&[start, row.len(), row.len() + 1, 257, usize::MAX]),
+                _ => plan.mode = random.below(4) as u8,
+            }
+        }
+        let before = random.bytes(len);
+        // cause 6 is looked up by document 01's words: mode, count, gains, payload
+        let mut number = cause(&row, start, end, &x);
+        let mut field = None;
+        if number == 0 {
+            match fitting(&plan, &row, start, end, &x) {
+                None => number = 6,
+                Some(theirs) => {
+                    let room = (8 * len as u128).checked_sub(8 * p.byte as u128 + p.bit as u128);
+                    if room.is_none_or(|n| n < 2 + u128::from(plan.payload)) {
+                        number = 7;
+                    } else {
+                        field = Some(with_field(&before, 8 * p.byte + p.bit as usize, &theirs, &row, start, end, &x).0);
+                    }
+                }
+            }
+        }
+        let mut out = before.clone();
+        let mut q = p;
+        let refusal = ours::write_aht_channel(&plan, &row, start, end, &x, &mut out, &mut q);
+        let moved = if number == 0 { ours::Pos::of(8 * p.byte + p.bit as usize + 2 + plan.payload as usize) } else { p };
+        t.case(refusal == number && out == field.unwrap_or(before) && q == moved, || format!("{plan:?} {row:?} {start} {end} {x:?} {p:?} {len}: {refusal} {q:?}, not {number} {moved:?}"));
+    }
+    t.close(all);
+}
+
+/// The Rust's plan where ours fits by document 01's words.
+fn fitting(plan: &ours::Plan, row: &[u8], start: usize, end: usize, x: &[f32]) -> Option<ahtenc::AhtChannelPlan> {
+    if plan.mode > 3 {
+        return None;
+    }
+    let active = |h: u8| plan.mode > 0 && (8..aht::endbap_for_gaqmod(plan.mode)).contains(&h);
+    if plan.count != (start..end).filter(|&k| active(row[k])).count() {
+        return None;
+    }
+    let allowed: &[u8] = [&[1u8][..], &[1, 2], &[1, 4], &[1, 2, 4]][plan.mode as usize];
+    if plan.gains[..plan.count].iter().any(|g| !allowed.contains(g)) {
+        return None;
+    }
+    let gains: Vec<u8> = plan.gains[..plan.count].iter().map(|g| g / 2).collect();
+    let theirs = ahtenc::AhtChannelPlan { gaqmod: plan.mode, gains, payload_bits: plan.payload };
+    let mut w = BitWriter::new();
+    ahtenc::write_aht_channel(&mut w, &theirs, row, start, end, &vectors(x));
+    (w.bits() == 2 + plan.payload as usize).then_some(theirs)
+}
+
+/// Fields with bits changed, and bytes that were never a field.
+fn damaged(random: &mut Random, all: &mut Tally) {
+    let mut t = Tally::of("read_aht_channel, damaged");
+    let mut made_up = Tally::of("read_aht_channel, random");
+    let mut seen = [0u64; 11];
+    for _ in 0..100_000 {
+        let (row, x, start, end) = some_channel(random);
+        let rust = some_plan(random, &row, start, end, &x);
+        let at = random.below(17);
+        let len = (at + 2 + rust.payload_bits as usize).div_ceil(8);
+        let (field, _) = with_field(&random.bytes(len), at, &rust, &row, start, end, &x);
+        for i in 0..6 {
+            let mut src = field.clone();
+            for _ in 0..1 + i / 2 {
+                // early bits decide most: the mode and the gain words
+                let k = if random.below(2) == 0 { (at + random.below(24)).min(8 * len - 1) } else { random.below(8 * len) };
+                src[k / 8] ^= 1 << (7 - k % 8);
+            }
+            if i == 5 {
+                src.truncate(random.below(len + 1));
+            }
+            let shown = read_both(&mut t, random, &src, at, &row, start, end);
+            seen[shown.err().unwrap_or(0) as usize] += 1;
+        }
+        for _ in 0..6 {
+            let n = random.below(len + 12);
+            let src = random.bytes(n);
+            let at = random.below(8 * n + 10);
+            let shown = read_both(&mut made_up, random, &src, at, &row, start, end);
+            seen[shown.err().unwrap_or(0) as usize] += 1;
+        }
+    }
+    t.close(all);
+    made_up.close(all);
+    println!("compare: of these {} were accepted, {} refused with 8, {} with 9, {} with 10", seen[0], seen[8], seen[9], seen[10]);
+    assert!([0, 8, 9, 10].iter().all(|&k| seen[k] > 10_000), "each answer is met");
+}
+
+/// Fields that end after each of their bits.
+fn cut(random: &mut Random, all: &mut Tally) {
+    let mut t = Tally::of("read_aht_channel, cut");
+    for _ in 0..1_500 {
+        let (row, x) = {
+            let bins = random.below(9);
+            channel(random, bins)
+        };
+        let (start, end) = (0, row.len());
+        let rust = some_plan(random, &row, start, end, &x);
+        for c in 0..=2 + rust.payload_bits as usize {
+            // the input's end falls behind the bit c of the field
+            let at = (8 - c % 8) % 8;
+            let len = (at + 2 + rust.payload_bits as usize).div_ceil(8);
+            let (mut src, _) = with_field(&random.bytes(len), at, &rust, &row, start, end, &x);
+            src.truncate((at + c) / 8);
+            let shown = read_both(&mut t, random, &src, at, &row, start, end);
+            assert_eq!(shown.is_ok(), c == 2 + rust.payload_bits as usize);
+        }
+    }
+    t.close(all);
+}
+
+/// The reader's causes 1 to 4, before any bit is looked at.
+fn outputs(random: &mut Random, all: &mut Tally) {
+    let mut t = Tally::of("read_aht_channel, faults");
+    for _ in 0..40_000 {
+        let (mut row, _, mut start, mut end) = some_channel(random);
+        let mut got = patterned(random, row.len());
+        for _ in 0..1 + random.below(2) {
+            match random.below(7) {
+                0 => row.truncate(random.below(row.len() + 1)),
+                1 => got.values.truncate(random.below(got.values.len() + 1)),
+                2 => got.exact.truncate(random.below(got.exact.len() + 1)),
+                3 => got.indices.truncate(random.below(got.indices.len() + 1)),
+                4 => start = random.pick(&[end, end + 1, 255, 257, usize::MAX]),
+                5 => end = random.pick(&[start, row.len(), row.len() + 1, 256, 257, usize::MAX]),
+                _ if !row.is_empty() => {
+                    let k = random.below(row.len());
+                    row[k] = 20 + random.below(236) as u8;
+                }
+                _ => {}
+            }
+        }
+        let n = random.below(9);
+        let src = random.bytes(n);
+        let at = random.below(8 * n + 3);
+        let number = if start > end {
+            1
+        } else if end > 256 {
+            2
+        } else if row.len() < end || got.values.len() < 6 * end || got.exact.len() < 6 * end || got.indices.len() < end {
+            3
+        } else if row[start..end].iter().any(|&h| h > 19) {
+            4
+        } else {
+            read_both(&mut t, random, &src, at, &row, start, end).err().unwrap_or(0)
+        };
+        if (1..=4).contains(&number) {
+            let before = got.clone();
+            let mut answer = ours::Channel::filled();
+            let refusal = ours::read_aht_channel(&src, ours::Pos::of(at), &row, start, end, &mut got, &mut answer);
+            t.case(refusal == number && answer == ours::Channel::filled() && got.bits() == before.bits(), || format!("{row:?} {start} {end}: {refusal}, not {number}"));
+        }
+    }
+    // 256 active bins in mode 3: the last of 86 group words has one gain; its missing codes stand beyond 256 places
+    for (word, number) in [(0u32, 0), (9, 0), (18, 0), (10, 10), (12, 10), (3, 10), (27, 9), (31, 9)] {
+        let mut w = BitWriter::new();
+        w.write_u32(3, 2);
+        for _ in 0..85 {
+            w.write_u32(0, 5);
+        }
+        w.write_u32(word, 5);
+        for _ in 0..256 {
+            // six codes of hebap 8; at Gk 2 and 4 the last bin's are small ones
+            w.write_u32(0, 18);
+        }
+        let shown = read_both(&mut t, random, &w.finish(), 0, &[8; 256], 0, 256);
+        assert_eq!(shown.err().unwrap_or(0), number);
+    }
+    // a position that no input reaches
+    for p in [ours::Pos { byte: usize::MAX, bit: u32::MAX }, ours::Pos { byte: 0, bit: u32::MAX }, ours::Pos { byte: 2, bit: 0 }, ours::Pos { byte: 0, bit: 9 }] {
+        let mut got = patterned(random, 0);
+        let mut answer = ours::Channel::filled();
+        let refusal = ours::read_aht_channel(&[0], p, &[], 0, 0, &mut got, &mut answer);
+        t.case(refusal == 8 && answer == ours::Channel::filled(), || format!("{p:?}: {refusal}, not 8"));
+    }
+    t.close(all);
+}
+
