@@ -1,0 +1,10 @@
+pub mod Laws
+pub mod ChannelTokens
+pub mod Forms
+pub mod Outputs
+pub mod Spelt
+pub mod Back
+pub mod Texts
+pub mod Component
+pub mod Answers
+pub mod Examples

@@ -1,0 +1,31 @@
+-- What the desk prints for a text. Document 01, Desk, Desk text and cause 13.
+use Prim.Native.Nat.{ℕ, _+_, _/_}
+use mathlib.Core.Bool.{Bool, cond}
+use mathlib.Core.List.{List, map}
+use lib.Dec.{eqb}
+use lib.Ieee.{Float}
+use lib.ListN.{length, replicate}
+use Rattle.bits.specs.Bits.{bytesWith}
+use Rattle.planner.specs.Planning.{planned}
+use Rattle.writer.specs.Written.{fieldOf}
+use Rattle.plantext.specs.PlanText.{planText, refusedText}
+use Rattle.desktext.specs.Printed.{valueOf}
+use Rattle.desktext.specs.Channel.{Channel, channel, none, channelIn}
+
+-- the bytes of a field, unused last bits 0
+abbrev pub fieldBytes : List Bool → List ℕ
+fieldBytes bs = bytesWith (replicate ((length bs + 7) / 8) 0) 0 bs
+
+-- the planner's plan of a row and its vectors with the field written from it, or the planner's refusal
+unfoldable pub planAnswer : List ℕ → ℕ → ℕ → List Float → List ℕ
+planAnswer row start end x =
+    let r = planned row start end x in
+    cond (eqb (r .refusal) 0) (planText (r .plan) (fieldBytes (fieldOf (r .plan) row start end x))) (refusedText (r .refusal))
+
+-- 13 comes first
+abbrev pub channelAnswer : Channel → List ℕ
+channelAnswer (channel start end row vs) = planAnswer row start end (map valueOf vs)
+channelAnswer none = refusedText 13
+
+unfoldable pub deskAnswer : List ℕ → List ℕ
+deskAnswer text = channelAnswer (channelIn text)

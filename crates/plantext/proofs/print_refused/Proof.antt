@@ -1,0 +1,37 @@
+-- `plantext::print_refused` meets its contract. Assumes nothing.
+use borrow.Author.Needs.{needs}
+use mathlib.Core.Path.{_∙_}
+use native.Mathlib.Nat.{zero-add}
+use Rattle.plantext.specs.PlanText.{refusedText}
+use Rattle.plantext.proofs.print_refused.Statement.{statement}
+use Rattle.plantext.proofs.print_refused.Tie as tie
+
+slice-aggregate-put-number-line : tie.Need-slice-aggregate-put-number-line
+slice-aggregate-put-number-line c = search needs
+
+wide-requires : tie.Need-wide-requires
+wide-requires c κs = search needs
+
+put-number-line-requires : tie.Need-put-number-line-requires
+put-number-line-requires c κs = search needs
+
+same-length : tie.Need-same-length
+same-length c = search needs
+
+returns : tie.Need-returns
+unfolding refusedText
+returns c =
+    let w = c .before .before in
+    let g = w .before in
+    let e = rw (g .wide .ensures) at (w .put-number-line .ensures) in
+    (e .0 ∙ zero-add _, e .1)
+
+pub print-refused-spec : {M : Type 1} → statement M
+print-refused-spec =
+    tie.close
+    (tie.spec
+    slice-aggregate-put-number-line
+    wide-requires
+    put-number-line-requires
+    same-length
+    returns)
