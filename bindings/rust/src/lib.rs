@@ -1,0 +1,445 @@
+//! The channel coder of the adaptive hybrid transform (AHT) of E-AC-3, as safe functions over the static library of proved calls.
+//!
+//! A **bin** is a frequency place, 0 to 255; its **hebap**, 0 to 19, says how it is coded, and a **row** has a hebap for each bin, from
+//! bin 0 on. The **vectors** have six components for each bin, from bin 0 on, one behind the other: those of the bin k are the places
+//! `6 * k` to `6 * k + 5`. A call works on the bins `start` to `end - 1`.
+//!
+//! [`plan`] finds the mode and the gains of fewest bits, [`write()`] puts the field of a plan into an output, with exactly the bits that the
+//! plan announces, and [`read`] reads a field back.
+//!
+//! ```
+//! use fathrugg::{plan, read, write, Plan, Position};
+//!
+//! let row = [8, 0];
+//! let mut vectors = [0.0; 12];
+//! vectors[..6].copy_from_slice(&[0.25, 0.0, -0.25, 0.0, 0.0, 0.0]);
+//!
+//! let best = plan(&row, 0, 2, &vectors)?;
+//! assert_eq!(best, Plan::new(1, &[2], 13));
+//! assert_eq!(best.total(), 15);
+//!
+//! let mut out = [0; 2];
+//! let mut position = Position::default();
+//! write(&best, &row, 0, 2, &vectors, &mut out, &mut position)?;
+//! assert_eq!(out, [0x69, 0x80]);
+//! assert_eq!(position, Position { byte: 1, bit: 7 });
+//!
+//! let (mut values, mut exact, mut indices) = ([0.0; 12], [0; 12], [0; 2]);
+//! let channel = read(&out, Position::default(), &row, 0, 2, &mut values, &mut exact, &mut indices)?;
+//! assert_eq!((channel.mode(), channel.gains(), channel.bits()), (1, &[2][..], 15));
+//! assert_eq!(channel.next_position(), position);
+//! assert_eq!(values[..3], [0.25, 0.0, -0.25]);
+//! # Ok::<(), fathrugg::Refusal>(())
+//! ```
+//!
+//! A call that refuses answers a [`Refusal`], and leaves every lent buffer and position as it was. Of causes that hold together the lowest
+//! number is answered, but [`read`] answers 8, 9 and 10 as they are met, and the quantiser 11 before 5.
+//!
+//! What is proved is the library: that its functions meet their contracts for every input and stay inside their buffers. These
+//! declarations of them are not.
+#![warn(missing_docs)]
+
+use std::error::Error;
+use std::fmt;
+
+/// The places for gains, one for each bin that there may be.
+const PLACES: usize = 256;
+
+// As crates/fathrugg/src/lib.rt has them: a slice is a pointer and its length, an array a pointer alone. Each answers the number of its
+// refusal, 0 for none, asks nothing of its arguments but that the pointers are good, and keeps none of them.
+extern "C" {
+    fn fathrugg_plan_aht_channel(
+        row: *const u8,
+        row_len: usize,
+        start: usize,
+        end: usize,
+        vectors: *const f32,
+        vectors_len: usize,
+        mode: *mut u8,
+        gains: *mut u8,
+        count: *mut usize,
+        payload: *mut u32,
+    ) -> u8;
+    fn fathrugg_write_aht_channel(
+        mode: u8,
+        gains: *const u8,
+        count: usize,
+        payload: u32,
+        row: *const u8,
+        row_len: usize,
+        start: usize,
+        end: usize,
+        vectors: *const f32,
+        vectors_len: usize,
+        out: *mut u8,
+        out_len: usize,
+        byte: *mut usize,
+        bit: *mut u32,
+    ) -> u8;
+    fn fathrugg_read_aht_channel(
+        src: *const u8,
+        src_len: usize,
+        byte: usize,
+        bit: u32,
+        row: *const u8,
+        row_len: usize,
+        start: usize,
+        end: usize,
+        values: *mut f32,
+        values_len: usize,
+        exact: *mut i32,
+        exact_len: usize,
+        indices: *mut u16,
+        indices_len: usize,
+        mode: *mut u8,
+        gains: *mut u8,
+        count: *mut usize,
+        bits: *mut u32,
+    ) -> u8;
+    fn fathrugg_vq_search(hebap: u8, x: *const f32, index: *mut usize) -> u8;
+    fn fathrugg_quantise_scalar(hebap: u8, gk: u8, x: f32, large: *mut u8, code: *mut u32, value: *mut f32) -> u8;
+    fn fathrugg_quantise_bin(hebap: u8, gk: u8, x: *const f32, values: *mut f32, bits: *mut u32, err: *mut f32) -> u8;
+}
+
+/// Why a call refused.
+#[derive(Clone, Copy, Debug, PartialEq, Eq, Hash)]
+#[repr(u8)]
+pub enum Refusal {
+    /// 1: start is above end.
+    StartAboveEnd = 1,
+    /// 2: end is above 256.
+    EndAbove256 = 2,
+    /// 3: the row, the vectors or an output is too short for the bins.
+    TooShort = 3,
+    /// 4: a hebap is above 19.
+    HebapAbove19 = 4,
+    /// 5: a vector's component is NaN, infinite or above 1024 in size.
+    ComponentTooLarge = 5,
+    /// 6: the plan does not fit the row and the vectors.
+    PlanDoesNotFit = 6,
+    /// 7: the output has too few bits from the position on, or the position is past its end.
+    OutputEnds = 7,
+    /// 8: the input runs out, or the position is past its end.
+    InputEnds = 8,
+    /// 9: a group word of gains is above 26.
+    GroupWordAbove26 = 9,
+    /// 10: an unused code of the last group word is not 0.
+    UnusedCodeNotZero = 10,
+    /// 11: the quantiser is asked for a hebap or gain that it does not have.
+    UnknownToQuantiser = 11,
+    /// 12: a mode is above 3, a count of bits above 32, or a mask outside -65536 to 65536. No function of this crate answers it; other
+    /// calls of the library do.
+    ArgumentOutOfRange = 12,
+}
+
+impl Refusal {
+    /// The number of the refusal, 1 to 12.
+    pub fn number(self) -> u8 {
+        self as u8
+    }
+
+    /// The refusal of a number; none for 0 and from 13 on.
+    pub fn from_number(number: u8) -> Option<Refusal> {
+        Some(match number {
+            1 => Refusal::StartAboveEnd,
+            2 => Refusal::EndAbove256,
+            3 => Refusal::TooShort,
+            4 => Refusal::HebapAbove19,
+            5 => Refusal::ComponentTooLarge,
+            6 => Refusal::PlanDoesNotFit,
+            7 => Refusal::OutputEnds,
+            8 => Refusal::InputEnds,
+            9 => Refusal::GroupWordAbove26,
+            10 => Refusal::UnusedCodeNotZero,
+            11 => Refusal::UnknownToQuantiser,
+            12 => Refusal::ArgumentOutOfRange,
+            _ => return None,
+        })
+    }
+}
+
+impl fmt::Display for Refusal {
+    fn fmt(&self, f: &mut fmt::Formatter<'_>) -> fmt::Result {
+        f.write_str(match self {
+            Refusal::StartAboveEnd => "start is above end",
+            Refusal::EndAbove256 => "end is above 256",
+            Refusal::TooShort => "the row, the vectors or an output is too short for the bins",
+            Refusal::HebapAbove19 => "a hebap is above 19",
+            Refusal::ComponentTooLarge => "a vector's component is NaN, infinite or above 1024 in size",
+            Refusal::PlanDoesNotFit => "the plan does not fit the row and the vectors",
+            Refusal::OutputEnds => "the output has too few bits from the position on, or the position is past its end",
+            Refusal::InputEnds => "the input runs out, or the position is past its end",
+            Refusal::GroupWordAbove26 => "a group word of gains is above 26",
+            Refusal::UnusedCodeNotZero => "an unused code of the last group word is not 0",
+            Refusal::UnknownToQuantiser => "the quantiser is asked for a hebap or gain that it does not have",
+            Refusal::ArgumentOutOfRange => "a mode is above 3, a count of bits above 32, or a mask outside -65536 to 65536",
+        })
+    }
+}
+
+impl Error for Refusal {}
+
+/// What the library's number says. It has no other numbers than 0 to 12.
+fn answer(number: u8) -> Result<(), Refusal> {
+    match Refusal::from_number(number) {
+        Some(refusal) => Err(refusal),
+        None => {
+            assert_eq!(number, 0, "the linked library answers a number that this crate does not know");
+            Ok(())
+        }
+    }
+}
+
+/// A place in a buffer: the bit `8 * byte + bit`, the first of a byte the heaviest.
+///
+/// Any pair is a position, also one with a bit of 8 or more; a position that a call gives has a bit below 8.
+#[derive(Clone, Copy, Debug, Default, PartialEq, Eq, Hash)]
+pub struct Position {
+    /// Whole bytes in front.
+    pub byte: usize,
+    /// Bits behind them.
+    pub bit: u32,
+}
+
+/// The mode and the gains of a channel, with the bits that its field takes.
+#[derive(Clone, Debug, PartialEq, Eq)]
+pub struct Plan {
+    mode: u8,
+    gains: [u8; PLACES],
+    count: usize,
+    payload: u32,
+}
+
+impl Plan {
+    /// A plan of any values; whether it fits a row and its vectors is tested by [`write()`]. `gains` has Gk (1, 2 or 4) for each bin that has
+    /// a gain of its own in the mode, in bin order. Of more than 256 gains, which fit no row, only the first 256 are kept, and the count.
+    pub fn new(mode: u8, gains: &[u8], payload: u32) -> Plan {
+        let mut places = [0; PLACES];
+        let kept = gains.len().min(PLACES);
+        places[..kept].copy_from_slice(&gains[..kept]);
+        Plan { mode, gains: places, count: gains.len(), payload }
+    }
+
+    /// The mode: 0 to 3 if [`plan`] made it.
+    pub fn mode(&self) -> u8 {
+        self.mode
+    }
+
+    /// The gains, Gk in bin order: the first [`count`](Plan::count) of 256 places.
+    pub fn gains(&self) -> &[u8] {
+        &self.gains[..self.count.min(PLACES)]
+    }
+
+    /// How many gains there are: at most 256 if [`plan`] made it.
+    pub fn count(&self) -> usize {
+        self.count
+    }
+
+    /// The bits of the gain words and of the bins.
+    pub fn payload(&self) -> u32 {
+        self.payload
+    }
+
+    /// The bits of the whole field: the payload and the two bits of the mode.
+    pub fn total(&self) -> u64 {
+        2 + u64::from(self.payload)
+    }
+}
+
+/// What stands in a field beside the bins.
+#[derive(Clone, Debug, PartialEq, Eq)]
+pub struct Channel {
+    mode: u8,
+    gains: [u8; PLACES],
+    count: usize,
+    bits: u32,
+    next: Position,
+}
+
+impl Channel {
+    /// The mode, 0 to 3.
+    pub fn mode(&self) -> u8 {
+        self.mode
+    }
+
+    /// The gains, Gk (1, 2 or 4) in bin order.
+    pub fn gains(&self) -> &[u8] {
+        &self.gains[..self.count]
+    }
+
+    /// The bits of the whole field, with the two of the mode.
+    pub fn bits(&self) -> u32 {
+        self.bits
+    }
+
+    /// The position behind the field.
+    pub fn next_position(&self) -> Position {
+        self.next
+    }
+}
+
+/// The code of a scalar mantissa: its bits, as an unsigned number.
+#[derive(Clone, Copy, Debug, PartialEq, Eq, Hash)]
+pub enum Code {
+    /// A short code; only with Gk 2 or 4.
+    Small(u32),
+    /// The code behind the tag with Gk 2 or 4, the whole code with Gk 1.
+    Large(u32),
+}
+
+/// The code that is picked for a component.
+#[derive(Clone, Copy, Debug, PartialEq)]
+pub struct QuantisedScalar {
+    /// The code.
+    pub code: Code,
+    /// What the code stands for.
+    pub value: f32,
+}
+
+/// The codes that are picked for the six components of a bin, as values.
+#[derive(Clone, Copy, Debug, PartialEq)]
+pub struct QuantisedBin {
+    /// What the codes stand for.
+    pub values: [f32; 6],
+    /// The bits of the six codes.
+    pub bits: u32,
+    /// The sum of the squared errors.
+    pub err: f32,
+}
+
+/// The plan of the bins `start` to `end - 1`: the mode and the gains of fewest bits, the lowest of equals.
+///
+/// Refusals 1 to 5.
+pub fn plan(row: &[u8], start: usize, end: usize, vectors: &[f32]) -> Result<Plan, Refusal> {
+    let mut p = Plan::new(0, &[], 0);
+    // SAFETY: each pointer goes with the length of its slice, and `gains` has its 256 places.
+    answer(unsafe {
+        fathrugg_plan_aht_channel(
+            row.as_ptr(),
+            row.len(),
+            start,
+            end,
+            vectors.as_ptr(),
+            vectors.len(),
+            &mut p.mode,
+            p.gains.as_mut_ptr(),
+            &mut p.count,
+            &mut p.payload,
+        )
+    })?;
+    Ok(p)
+}
+
+/// Writes the field of a plan from the position on, and moves the position behind it; every other bit of the output is kept.
+///
+/// The plan may be any that fits the row and the vectors, best or not.
+///
+/// Refusals 1 to 7.
+pub fn write(
+    plan: &Plan,
+    row: &[u8],
+    start: usize,
+    end: usize,
+    vectors: &[f32],
+    out: &mut [u8],
+    position: &mut Position,
+) -> Result<(), Refusal> {
+    // SAFETY: each pointer goes with the length of its slice, and `gains` has its 256 places, whatever the count.
+    answer(unsafe {
+        fathrugg_write_aht_channel(
+            plan.mode,
+            plan.gains.as_ptr(),
+            plan.count,
+            plan.payload,
+            row.as_ptr(),
+            row.len(),
+            start,
+            end,
+            vectors.as_ptr(),
+            vectors.len(),
+            out.as_mut_ptr(),
+            out.len(),
+            &mut position.byte,
+            &mut position.bit,
+        )
+    })
+}
+
+/// Reads the field of the bins `start` to `end - 1` from the position on.
+///
+/// For the bin k six values go to the places `6 * k` to `6 * k + 5` of `values`, the same values in units of 2^-30, exactly, to these places
+/// of `exact`, and the index of a book bin, 0 for others, to the place k of `indices`. Every other place is kept.
+///
+/// Refusals 1 to 4, then 8, 9 and 10 as met.
+#[allow(clippy::too_many_arguments)]
+pub fn read(
+    src: &[u8],
+    position: Position,
+    row: &[u8],
+    start: usize,
+    end: usize,
+    values: &mut [f32],
+    exact: &mut [i32],
+    indices: &mut [u16],
+) -> Result<Channel, Refusal> {
+    let mut c = Channel { mode: 0, gains: [0; PLACES], count: 0, bits: 0, next: position };
+    // SAFETY: each pointer goes with the length of its slice, and `gains` has its 256 places.
+    answer(unsafe {
+        fathrugg_read_aht_channel(
+            src.as_ptr(),
+            src.len(),
+            position.byte,
+            position.bit,
+            row.as_ptr(),
+            row.len(),
+            start,
+            end,
+            values.as_mut_ptr(),
+            values.len(),
+            exact.as_mut_ptr(),
+            exact.len(),
+            indices.as_mut_ptr(),
+            indices.len(),
+            &mut c.mode,
+            c.gains.as_mut_ptr(),
+            &mut c.count,
+            &mut c.bits,
+        )
+    })?;
+    // the field lies inside the input, so the byte cannot wrap
+    let bit = u64::from(position.bit) + u64::from(c.bits);
+    c.next = Position { byte: position.byte + (bit / 8) as usize, bit: (bit % 8) as u32 };
+    Ok(c)
+}
+
+/// The index of the vector nearest to `x` in the book of the hebap, the lowest of equals. Where there is no book, outside hebap 1 to 7, it
+/// is 0.
+///
+/// Refusal 5, where there is a book.
+pub fn search(hebap: u8, x: &[f32; 6]) -> Result<usize, Refusal> {
+    let mut index = 0;
+    // SAFETY: `x` has its six places.
+    answer(unsafe { fathrugg_vq_search(hebap, x.as_ptr(), &mut index) })?;
+    Ok(index)
+}
+
+/// The code for a component at a hebap of 8 to 19 and a gain: Gk 1, or 2 and 4 up to hebap 16.
+///
+/// Refusals 11, then 5.
+pub fn quantise_scalar(hebap: u8, gk: u8, x: f32) -> Result<QuantisedScalar, Refusal> {
+    let (mut large, mut code, mut value) = (0, 0, 0.0);
+    // SAFETY: the pointers are to locals.
+    answer(unsafe { fathrugg_quantise_scalar(hebap, gk, x, &mut large, &mut code, &mut value) })?;
+    let code = if large == 0 { Code::Small(code) } else { Code::Large(code) };
+    Ok(QuantisedScalar { code, value })
+}
+
+/// The six values of a bin at a hebap of 8 to 19 and a gain, Gk 1, or 2 and 4 up to hebap 16, with their bits and errors.
+///
+/// Refusals 11, then 5.
+pub fn quantise_bin(hebap: u8, gk: u8, x: &[f32; 6]) -> Result<QuantisedBin, Refusal> {
+    let mut b = QuantisedBin { values: [0.0; 6], bits: 0, err: 0.0 };
+    // SAFETY: `x` and `values` have their six places.
+    answer(unsafe { fathrugg_quantise_bin(hebap, gk, x.as_ptr(), b.values.as_mut_ptr(), &mut b.bits, &mut b.err) })?;
+    Ok(b)
+}

@@ -1,0 +1,501 @@
+//! The crate's functions: channels written and read back, and each refusal with what was lent.
+#![forbid(unsafe_code)]
+
+use fathrugg::{plan, quantise_bin, quantise_scalar, read, search, write, Channel, Code, Plan, Position, Refusal};
+use std::error::Error;
+
+/// The position of a bit.
+fn position(at: usize) -> Position {
+    Position { byte: at / 8, bit: (at % 8) as u32 }
+}
+
+fn bit(bytes: &[u8], at: usize) -> u8 {
+    bytes[at / 8] >> (7 - at % 8) & 1
+}
+
+/// Bytes of the numbers, each with so many bits, the first bit the heaviest; zeros fill the last byte.
+fn bytes_of(numbers: &[(u32, u32)]) -> Vec<u8> {
+    let bits: Vec<u8> = numbers.iter().flat_map(|&(v, n)| (0..n).rev().map(move |i| (v >> i & 1) as u8)).collect();
+    bits.chunks(8).map(|c| c.iter().enumerate().fold(0, |b, (i, x)| b | x << (7 - i))).collect()
+}
+
+fn patterned(len: usize) -> Vec<u8> {
+    (0..len).map(|i| 0xa5 ^ (i as u8).wrapping_mul(29)).collect()
+}
+
+/// What is lent to the reader, with a pattern in it.
+struct Outputs {
+    values: Vec<f32>,
+    exact: Vec<i32>,
+    indices: Vec<u16>,
+}
+
+impl Outputs {
+    /// For so many bins.
+    fn patterned(bins: usize) -> Outputs {
+        Outputs {
+            // NaNs, so that only the same bits are the same
+            values: (0..6 * bins).map(|i| f32::from_bits(0x7fc0_0001 + i as u32)).collect(),
+            exact: (0..6 * bins).map(|i| 0x5a5a_0000 + i as i32).collect(),
+            indices: (0..bins).map(|i| 0xa500 + i as u16).collect(),
+        }
+    }
+
+    fn read(&mut self, src: &[u8], p: Position, row: &[u8], start: usize, end: usize) -> Result<Channel, Refusal> {
+        read(src, p, row, start, end, &mut self.values, &mut self.exact, &mut self.indices)
+    }
+
+    /// All of it, the f32 by their bits.
+    fn bits(&self) -> (Vec<u32>, Vec<i32>, Vec<u16>) {
+        (self.values.iter().map(|v| v.to_bits()).collect(), self.exact.clone(), self.indices.clone())
+    }
+}
+
+/// Vectors for so many bins, of components up to `size`, always the same.
+fn vectors(bins: usize, size: f32) -> Vec<f32> {
+    let mut state = 20_261_115u32;
+    (0..6 * bins)
+        .map(|_| {
+            state = state.wrapping_mul(1_664_525).wrapping_add(1_013_904_223);
+            size * ((state >> 8) as f32 / (1 << 23) as f32 - 1.0)
+        })
+        .collect()
+}
+
+fn six(x: &[f32], bin: usize) -> &[f32; 6] {
+    x[6 * bin..6 * bin + 6].try_into().unwrap()
+}
+
+/// Whether a bin has a gain of its own: hebap 8 to 11 in mode 1, 8 to 16 in modes 2 and 3.
+fn has_gain(mode: u8, hebap: u8) -> bool {
+    match mode {
+        0 => false,
+        1 => (8..=11).contains(&hebap),
+        _ => (8..=16).contains(&hebap),
+    }
+}
+
+/// Writes the field of a plan at a bit position of a patterned buffer, reads it back and tests everything that was lent.
+fn written_and_read(p: &Plan, row: &[u8], start: usize, end: usize, x: &[f32], at: usize) {
+    let total = p.total() as usize;
+    let before = patterned((at + total).div_ceil(8) + 1);
+    let mut out = before.clone();
+    let mut here = position(at);
+    assert_eq!(write(p, row, start, end, x, &mut out, &mut here), Ok(()));
+    assert_eq!(here, position(at + total));
+    for k in (0..at).chain(at + total..8 * out.len()) {
+        assert_eq!(bit(&out, k), bit(&before, k), "the bit {k}, outside of {at} to {}", at + total);
+    }
+
+    // the same bit by a byte less
+    let mut again = before.clone();
+    let mut over = Position { byte: at / 8 - 1, bit: (at % 8 + 8) as u32 };
+    assert_eq!(write(p, row, start, end, x, &mut again, &mut over), Ok(()));
+    assert_eq!((again, over), (out.clone(), here));
+
+    let mut got = Outputs::patterned(end + 2);
+    let (values, exact, indices) = got.bits();
+    let channel = got.read(&out, position(at), row, start, end).unwrap();
+    assert_eq!((channel.mode(), channel.gains(), u64::from(channel.bits())), (p.mode(), p.gains(), p.total()));
+    assert_eq!(channel.next_position(), here);
+    let from_over = Position { byte: at / 8 - 1, bit: (at % 8 + 8) as u32 };
+    assert_eq!(Outputs::patterned(end + 2).read(&out, from_over, row, start, end).unwrap(), channel);
+
+    let mut gains = p.gains().iter();
+    for bin in 0..end + 2 {
+        let places = 6 * bin..6 * bin + 6;
+        let shown: Vec<u32> = got.values[places.clone()].iter().map(|v| v.to_bits()).collect();
+        if bin < start || end <= bin {
+            assert_eq!(shown, values[places.clone()], "the bin {bin} was not asked for");
+            assert_eq!(got.exact[places.clone()], exact[places]);
+            assert_eq!(got.indices[bin], indices[bin]);
+            continue;
+        }
+        let (hebap, v) = (row[bin], six(x, bin));
+        match hebap {
+            0 => assert_eq!((shown, got.indices[bin]), (vec![0; 6], 0)),
+            1..=7 => assert_eq!(usize::from(got.indices[bin]), search(hebap, v).unwrap()),
+            _ => {
+                let gk = if has_gain(p.mode(), hebap) { *gains.next().unwrap() } else { 1 };
+                let want: Vec<u32> = quantise_bin(hebap, gk, v).unwrap().values.iter().map(|y| y.to_bits()).collect();
+                assert_eq!((shown, got.indices[bin]), (want, 0), "the bin {bin} of hebap {hebap} at Gk {gk}");
+            }
+        }
+        for k in places {
+            let far = f64::from(got.values[k]) * f64::from(1 << 30) - f64::from(got.exact[k]);
+            assert!(far.abs() <= 256.0, "the place {k}: {} and {}", got.values[k], got.exact[k]);
+        }
+    }
+    assert!(gains.next().is_none());
+}
+
+#[test]
+fn document_01() {
+    let row = [8, 0];
+    let x = [0.25, 0.0, -0.25, 0.0, 0.0, 0.0, 0.0, 0.0, 0.0, 0.0, 0.0, 0.0];
+    let p = plan(&row, 0, 2, &x).unwrap();
+    assert_eq!((p.mode(), p.gains(), p.count(), p.payload(), p.total()), (1, &[2][..], 1, 13, 15));
+    assert_eq!(p, Plan::new(1, &[2], 13));
+    let mut out = [0; 2];
+    let mut here = Position::default();
+    write(&p, &row, 0, 2, &x, &mut out, &mut here).unwrap();
+    assert_eq!((out, here), ([0x69, 0x80], Position { byte: 1, bit: 7 }));
+    let mut got = Outputs::patterned(2);
+    let channel = got.read(&out, Position::default(), &row, 0, 2).unwrap();
+    assert_eq!((channel.mode(), channel.gains(), channel.bits(), channel.next_position()), (1, &[2][..], 15, here));
+    assert_eq!(got.values, x);
+    assert_eq!(got.exact, x.map(|v| (v * (1 << 30) as f32) as i32));
+    assert_eq!(got.indices, [0, 0]);
+    written_and_read(&p, &row, 0, 2, &x, 13);
+}
+
+#[test]
+fn channels_come_back() {
+    let all: Vec<u8> = (0..20).collect();
+    let long: Vec<u8> = (0..256).map(|k| (k * 7 % 20) as u8).collect();
+    // the first component of a vector larger than the others
+    let mixed: Vec<f32> = vectors(256, 0.2).iter().enumerate().map(|(i, v)| if i % 6 == 0 { 4.0 * v } else { *v }).collect();
+    let channels: &[(&[u8], usize, usize, Vec<f32>)] = &[
+        (&[], 0, 0, Vec::new()),
+        (&all, 7, 7, vectors(20, 1.0)),
+        (&[0, 0, 0], 0, 3, vectors(3, 1.0)),
+        (&[1, 2, 3, 4, 5, 6, 7], 0, 7, vectors(7, 0.9)),
+        (&[8, 9, 10, 11], 0, 4, vectors(4, 0.4)),
+        (&[12, 13, 14, 15, 16, 12], 1, 6, vectors(6, 0.05)),
+        (&[17, 18, 19, 8], 0, 4, vectors(4, 1.0)),
+        (&all, 0, 20, vectors(20, 0.1)),
+        (&all, 3, 17, vectors(20, 0.3)),
+        (&all, 0, 20, vectors(20, 1024.0)),
+        (&long, 0, 256, vectors(256, 0.2)),
+        (&long, 0, 256, mixed.clone()),
+        (&long, 100, 201, mixed.clone()),
+        (&[8; 256], 0, 256, mixed),
+        // the desk's example group_of_one: four gains in mode 3
+        (
+            &[11, 14, 12, 14],
+            0,
+            4,
+            [
+                [9611, 13281, 18494, -7555, -7899, 13548],
+                [-7799, -13832, 9267, -117, -10708, -14058],
+                [105, 163, -139, -285, 241, -236],
+                [-264, -106, -53, -270, 175, 34],
+            ]
+            .concat()
+            .iter()
+            .map(|&n| n as f32 / 32768.0)
+            .collect(),
+        ),
+    ];
+    let mut modes = [false; 4];
+    for (row, start, end, x) in channels {
+        let p = plan(row, *start, *end, x).unwrap();
+        modes[usize::from(p.mode())] = true;
+        for at in [13, 8, 23] {
+            written_and_read(&p, row, *start, *end, x, at);
+        }
+        // a plan that is not the best: every gain 1
+        for mode in 0..4 {
+            let mut gains = 0;
+            let mut payload = 0;
+            for bin in *start..*end {
+                payload += match row[bin] {
+                    0 => 0,
+                    h @ 1..=7 => [2, 3, 4, 5, 7, 8, 9][usize::from(h) - 1],
+                    h => quantise_bin(h, 1, six(x, bin)).unwrap().bits,
+                };
+                gains += usize::from(has_gain(mode, row[bin]));
+            }
+            payload += if mode == 3 { 5 * gains.div_ceil(3) as u32 } else { gains as u32 };
+            assert!(p.payload() <= payload);
+            written_and_read(&Plan::new(mode, &vec![1; gains], payload), row, *start, *end, x, 11);
+        }
+    }
+    assert_eq!(modes, [true; 4], "each mode is met");
+}
+
+#[test]
+fn scalars_and_books() {
+    // hebap 8 has three bits: 0.25 at Gk 2 is a short code, at Gk 1 a whole one
+    assert_eq!(quantise_scalar(8, 2, 0.25).unwrap().code, Code::Small(1));
+    assert_eq!(quantise_scalar(8, 2, 0.25).unwrap().value, 0.25);
+    assert!(matches!(quantise_scalar(8, 1, 0.25).unwrap().code, Code::Large(_)));
+    assert!(matches!(quantise_scalar(8, 4, 0.75).unwrap().code, Code::Large(_)));
+    let x = [0.25, 0.0, -0.25, 0.0, 0.0, 0.0];
+    let b = quantise_bin(8, 2, &x).unwrap();
+    assert_eq!((b.values, b.bits, b.err), (x, 12, 0.0));
+    // the sum of the errors is that of the values
+    let x = [0.3, -0.9, 0.01, 0.0, 1.5, -3.0];
+    let b = quantise_bin(10, 4, &x).unwrap();
+    let err = b.values.iter().zip(&x).fold(0.0, |e, (y, x)| e + (y - x) * (y - x));
+    assert_eq!(b.err, err);
+    for (y, x) in b.values.iter().zip(x) {
+        assert_eq!(*y, quantise_scalar(10, 4, x).unwrap().value);
+    }
+    // no book, no refusal
+    for hebap in [0, 8, 255] {
+        assert_eq!(search(hebap, &[f32::NAN; 6]), Ok(0));
+    }
+    for (hebap, bits) in [(1, 2), (2, 3), (3, 4), (4, 5), (5, 7), (6, 8), (7, 9)] {
+        for bin in 0..20 {
+            assert!(search(hebap, six(&vectors(20, 1.0), bin)).unwrap() < 1 << bits);
+        }
+    }
+}
+
+/// A channel that the calls accept, with room around it, to make one fault in.
+struct Call {
+    row: Vec<u8>,
+    start: usize,
+    end: usize,
+    x: Vec<f32>,
+    plan: Plan,
+    out: Vec<u8>,
+    at: Position,
+    /// A field of the channel at `at`, for the reader.
+    src: Vec<u8>,
+    got: Outputs,
+}
+
+impl Call {
+    /// Four bins with a gain in mode 3 and a book bin.
+    fn good() -> Call {
+        let row = vec![8, 14, 12, 9, 5];
+        let x = vectors(5, 0.3);
+        let payload = 10 + (1..4).fold(7, |n, k| n + quantise_bin(row[k], 2, six(&x, k)).unwrap().bits) + quantise_bin(8, 4, six(&x, 0)).unwrap().bits;
+        let plan = Plan::new(3, &[4, 2, 2, 2], payload);
+        let len = (11 + plan.total() as usize).div_ceil(8);
+        let mut src = patterned(len);
+        write(&plan, &row, 0, 5, &x, &mut src, &mut position(11)).unwrap();
+        Call { row, start: 0, end: 5, x, plan, out: patterned(len), at: position(11), src, got: Outputs::patterned(5) }
+    }
+
+    fn with(fault: impl FnOnce(&mut Call)) -> Call {
+        let mut call = Call::good();
+        fault(&mut call);
+        call
+    }
+
+    fn plan(&self) -> Result<Plan, Refusal> {
+        plan(&self.row, self.start, self.end, &self.x)
+    }
+
+    /// Writes; where it is refused, the output and the position must be as they were.
+    fn write(&mut self) -> Result<(), Refusal> {
+        let before = (self.out.clone(), self.at);
+        let answer = write(&self.plan, &self.row, self.start, self.end, &self.x, &mut self.out, &mut self.at);
+        assert_eq!(answer.is_err(), before == (self.out.clone(), self.at));
+        answer
+    }
+
+    /// Reads; where it is refused, every output must be as it was.
+    fn read(&mut self) -> Result<Channel, Refusal> {
+        let before = self.got.bits();
+        let answer = self.got.read(&self.src, self.at, &self.row, self.start, self.end);
+        assert_eq!(answer.is_err(), before == self.got.bits());
+        answer
+    }
+}
+
+/// Plan, write and read with the same fault are refused for the same cause.
+fn all_refuse(want: Refusal, fault: impl Fn(&mut Call)) {
+    assert_eq!(Call::with(&fault).plan(), Err(want));
+    assert_eq!(Call::with(&fault).write(), Err(want));
+    assert_eq!(Call::with(&fault).read(), Err(want));
+}
+
+#[test]
+fn the_good_call_is_accepted() {
+    assert!(Call::good().plan().is_ok());
+    assert_eq!(Call::good().write(), Ok(()));
+    assert_eq!(Call::good().read().unwrap().gains(), [4, 2, 2, 2]);
+}
+
+#[test]
+fn refusal_1_start_above_end() {
+    all_refuse(Refusal::StartAboveEnd, |c| c.start = 6);
+    all_refuse(Refusal::StartAboveEnd, |c| c.start = usize::MAX);
+    // the lowest number of causes that hold together
+    all_refuse(Refusal::StartAboveEnd, |c| (c.start, c.end, c.row[0]) = (300, 299, 20));
+}
+
+#[test]
+fn refusal_2_end_above_256() {
+    all_refuse(Refusal::EndAbove256, |c| c.end = usize::MAX);
+    all_refuse(Refusal::EndAbove256, |c| {
+        c.row = vec![0; 257];
+        c.x = vec![0.0; 6 * 257];
+        c.got = Outputs::patterned(257);
+        c.end = 257;
+    });
+}
+
+#[test]
+fn refusal_3_too_short() {
+    all_refuse(Refusal::TooShort, |c| c.row.truncate(4));
+    all_refuse(Refusal::TooShort, |c| c.end = 6);
+    for short in [|c: &mut Call| c.x.truncate(29), |c: &mut Call| c.x.clear()] {
+        assert_eq!(Call::with(short).plan(), Err(Refusal::TooShort));
+        assert_eq!(Call::with(short).write(), Err(Refusal::TooShort));
+    }
+    let shorts: [fn(&mut Call); 3] = [|c| c.got.values.truncate(29), |c| c.got.exact.truncate(29), |c| c.got.indices.truncate(4)];
+    for short in shorts {
+        assert_eq!(Call::with(short).read(), Err(Refusal::TooShort));
+    }
+}
+
+#[test]
+fn refusal_4_hebap_above_19() {
+    all_refuse(Refusal::HebapAbove19, |c| c.row[4] = 20);
+    all_refuse(Refusal::HebapAbove19, |c| c.row[0] = 255);
+    // outside of the bins it is not looked at
+    assert!(Call::with(|c| (c.row[0], c.start) = (20, 1)).plan().is_ok());
+}
+
+#[test]
+fn refusal_5_component_too_large() {
+    for bad in [f32::NAN, f32::INFINITY, -f32::INFINITY, 1024.0001, -1024.0001] {
+        assert_eq!(Call::with(|c| c.x[29] = bad).plan(), Err(Refusal::ComponentTooLarge));
+        assert_eq!(Call::with(|c| c.x[29] = bad).write(), Err(Refusal::ComponentTooLarge));
+        let x = [0.0, 0.0, 0.0, bad, 0.0, 0.0];
+        assert_eq!(search(1, &x), Err(Refusal::ComponentTooLarge));
+        assert_eq!(quantise_scalar(8, 1, bad), Err(Refusal::ComponentTooLarge));
+        assert_eq!(quantise_bin(8, 1, &x), Err(Refusal::ComponentTooLarge));
+    }
+    assert!(Call::with(|c| c.x[29] = -1024.0).plan().is_ok());
+    // nor is it looked at where nothing is coded
+    assert!(Call::with(|c| (c.row[4], c.x[29]) = (0, f32::NAN)).plan().is_ok());
+}
+
+#[test]
+fn refusal_6_plan_does_not_fit() {
+    let good = Call::good().plan;
+    let (mode, gains, payload) = (good.mode(), good.gains().to_vec(), good.payload());
+    let plans = [
+        Plan::new(4, &gains, payload),
+        Plan::new(255, &gains, payload),
+        Plan::new(2, &gains, payload),
+        Plan::new(mode, &gains[..3], payload),
+        Plan::new(mode, &[4, 2, 2, 2, 1], payload),
+        Plan::new(mode, &[4, 2, 2, 3], payload),
+        Plan::new(mode, &gains, payload + 1),
+        Plan::new(mode, &gains, payload - 1),
+        Plan::new(mode, &gains, u32::MAX),
+        Plan::new(mode, &[1; 257], payload),
+        Plan::new(mode, &[1; 5000], payload),
+    ];
+    for p in plans {
+        assert_eq!(Call::with(|c| c.plan = p.clone()).write(), Err(Refusal::PlanDoesNotFit), "{p:?}");
+    }
+    // 6 comes before 7
+    assert_eq!(Call::with(|c| (c.plan, c.out) = (Plan::new(4, &[], 0), Vec::new())).write(), Err(Refusal::PlanDoesNotFit));
+    // such plans say what they were made of
+    let many = Plan::new(9, &[7; 257], u32::MAX);
+    assert_eq!((many.mode(), many.gains(), many.count(), many.total()), (9, &[7; 256][..], 257, (1 << 32) + 1));
+}
+
+#[test]
+fn refusal_7_output_ends() {
+    let faults: [fn(&mut Call); 6] = [
+        |c| c.out.truncate(c.out.len() - 1),
+        |c| c.out.clear(),
+        |c| c.at = position(8 * c.out.len()),
+        |c| c.at = Position { byte: c.out.len(), bit: 1 },
+        |c| c.at = Position { byte: 0, bit: u32::MAX },
+        |c| c.at = Position { byte: usize::MAX, bit: u32::MAX },
+    ];
+    for fault in faults {
+        assert_eq!(Call::with(fault).write(), Err(Refusal::OutputEnds));
+    }
+}
+
+#[test]
+fn refusal_8_input_ends() {
+    let faults: [fn(&mut Call); 6] = [
+        |c| c.src.truncate(c.src.len() - 1),
+        |c| c.src.clear(),
+        |c| c.at = position(8 * c.src.len()),
+        |c| c.at = Position { byte: c.src.len(), bit: 1 },
+        |c| c.at = Position { byte: 0, bit: u32::MAX },
+        |c| c.at = Position { byte: usize::MAX, bit: u32::MAX },
+    ];
+    for fault in faults {
+        assert_eq!(Call::with(fault).read(), Err(Refusal::InputEnds));
+    }
+}
+
+/// A reader's call on a field of hebap 8 in mode 3: the group words, then the bins' codes, all 0.
+fn group_words(bins: usize, words: &[u32]) -> Call {
+    Call::with(|c| {
+        let mut numbers = vec![(3, 2)];
+        numbers.extend(words.iter().map(|&w| (w, 5)));
+        numbers.extend(vec![(0, 18); bins]);
+        c.src = bytes_of(&numbers);
+        c.at = Position::default();
+        c.row = vec![8; bins];
+        c.end = bins;
+    })
+}
+
+#[test]
+fn refusal_9_group_word_above_26() {
+    for word in 27..32 {
+        assert_eq!(group_words(3, &[word]).read(), Err(Refusal::GroupWordAbove26));
+        assert_eq!(group_words(4, &[0, word]).read(), Err(Refusal::GroupWordAbove26));
+    }
+    assert_eq!(group_words(3, &[26]).read().unwrap().gains(), [4, 4, 4]);
+}
+
+#[test]
+fn refusal_10_unused_code_not_zero() {
+    for word in 0..27 {
+        let one = group_words(4, &[0, word]).read();
+        let two = group_words(5, &[0, word]).read();
+        let gain = |code: u32| [1, 2, 4][code as usize];
+        if word % 9 == 0 {
+            assert_eq!(one.unwrap().gains(), [1, 1, 1, gain(word / 9)]);
+        } else {
+            assert_eq!(one, Err(Refusal::UnusedCodeNotZero));
+        }
+        if word % 3 == 0 {
+            assert_eq!(two.unwrap().gains(), [1, 1, 1, gain(word / 9), gain(word / 3 % 3)]);
+        } else {
+            assert_eq!(two, Err(Refusal::UnusedCodeNotZero));
+        }
+    }
+}
+
+#[test]
+fn refusal_11_unknown_to_quantiser() {
+    for (hebap, gk) in [(0, 1), (7, 1), (20, 1), (255, 1), (8, 0), (8, 3), (16, 5), (17, 2), (19, 4)] {
+        // 11 comes before 5
+        for x in [0.0, f32::NAN] {
+            assert_eq!(quantise_scalar(hebap, gk, x), Err(Refusal::UnknownToQuantiser));
+            assert_eq!(quantise_bin(hebap, gk, &[x; 6]), Err(Refusal::UnknownToQuantiser));
+        }
+    }
+    for (hebap, gk) in [(8, 1), (19, 1), (16, 2), (16, 4)] {
+        assert!(quantise_scalar(hebap, gk, 0.0).is_ok());
+    }
+}
+
+// 12 is answered by none of these functions: here only its number and words.
+#[test]
+fn numbers_and_words() {
+    let mut words = Vec::new();
+    for number in 1..=12 {
+        let refusal = Refusal::from_number(number).unwrap();
+        assert_eq!((refusal.number(), refusal as u8), (number, number));
+        let error: Box<dyn Error> = Box::new(refusal);
+        words.push(error.to_string());
+    }
+    assert_eq!(words[0], "start is above end");
+    assert_eq!(words[11], "a mode is above 3, a count of bits above 32, or a mask outside -65536 to 65536");
+    words.sort();
+    words.dedup();
+    assert_eq!(words.len(), 12);
+    for number in (0..1).chain(13..=255) {
+        assert_eq!(Refusal::from_number(number), None);
+    }
+    assert_eq!(std::mem::size_of::<Refusal>(), 1);
+}
