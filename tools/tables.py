@@ -6,11 +6,12 @@
 
 FOLDER holds src--src--eac3--aht.rs.txt and src--src--eac3--tables--aht_codebooks.rs.txt.
 """
-import os, re, sys
+import os, re, struct, sys
 
 ROOT = os.path.dirname(os.path.dirname(os.path.abspath(__file__)))
 CODE = os.path.join(ROOT, 'crates/tables/src/consts.rt')
 SPEC = os.path.join(ROOT, 'crates/tables/specs/Numbers.antt')
+FRACTIONS = os.path.join(ROOT, 'crates/fractions/src/consts.rt')
 
 
 def rust(folder):
@@ -57,6 +58,21 @@ def code_text(tables):
     return '\n'.join(lines) + '\n'
 
 
+def fractions(numbers):
+    """A book in component order, each number / 32768 as the bit pattern of its f32."""
+    n = len(numbers) // 6
+    return [struct.unpack('<I', struct.pack('<f', numbers[6 * k + j] / 32768))[0] for j in range(6) for k in range(n)]
+
+
+def fractions_text(tables):
+    lines = ['// The books as fractions, by their bit patterns, each in component order. Made by tools/tables.py.']
+    for name, kind, numbers in tables:
+        if name.startswith('VQ_HEBAP'):
+            lines += ['', '// %s: the first numbers of all vectors, then the second ones, and so on.' % SECTION[name].split(',')[0],
+                      'pub const %s: [u32; %d] = [' % (name, len(numbers))] + ['    0x%08x,' % x for x in fractions(numbers)] + ['];']
+    return '\n'.join(lines) + '\n'
+
+
 def spec_text(tables):
     lines = ['-- The tables of ATSC A/52 Annex E, section 3.4, each flat. Made by tools/tables.py.',
              'use mathlib.Core.List.{List, [], _∷_}', 'use Prim.Native.Nat.{ℕ}', 'use lib.IntN.{ℤ, pos, negℤ}', '',
@@ -78,10 +94,12 @@ def ours():
     spec = open(SPEC, encoding='utf-8').read()
     from_code = {n: (k, [int(x) for x in re.findall(r'-?\d+', body)])
                  for n, k, body in re.findall(r'pub const (\w+): \[(\w+); \d+\] = \[(.*?)\];', code, re.S)}
+    by_component = {n: [int(x, 16) for x in re.findall(r'0x(\w{8})', body)]
+                    for n, body in re.findall(r'pub const (\w+): \[u32; \d+\] = \[(.*?)\];', open(FRACTIONS, encoding='utf-8').read(), re.S)}
     from_spec = {}
     for n, body in re.findall(r'unfoldable pub (\w+) : List .\n\1 =\n(.*?)\[\]', spec, re.S):
         from_spec[n] = [int(x.split()[-1]) * (-1 if x.startswith('neg') else 1) for x in re.findall(r'pos \d+|neg \d+|\d+', body)]
-    return from_code, from_spec
+    return from_code, from_spec, by_component
 
 
 def main():
@@ -90,8 +108,9 @@ def main():
     if '--check' not in sys.argv:
         open(CODE, 'w', encoding='utf-8').write(code_text(tables))
         open(SPEC, 'w', encoding='utf-8').write(spec_text(tables))
+        open(FRACTIONS, 'w', encoding='utf-8').write(fractions_text(tables))
         return
-    code, spec = ours()
+    code, spec, by_component = ours()
     numbers = wrong = 0
     for name, kind, want in tables:
         for where, got in (('constant', code.get(name, (None, []))[1]), ('definition', spec.get(spec_name(name), []))):
@@ -99,6 +118,12 @@ def main():
             numbers += len(want)
             wrong += bad
             if bad: print('tables: %s, %s: %d numbers differ' % (name, where, bad))
+        if name.startswith('VQ_HEBAP'):
+            want, got = fractions(want), by_component.get(name, [])
+            bad = abs(len(want) - len(got)) + sum(a != b for a, b in zip(want, got))
+            numbers += len(want)
+            wrong += bad
+            if bad: print('tables: %s as fractions: %d numbers differ' % (name, bad))
     print('tables: %d numbers compared with the Rust, %d different' % (numbers, wrong))
     sys.exit(1 if wrong else 0)
 

@@ -117,21 +117,27 @@ fn read_both(t: &mut Tally, random: &mut Random, src: &[u8], at: usize, row: &[u
     theirs
 }
 
-/// Fields written with the Rust's plan and with others: every byte of the output, then what is read there.
+/// Channels planned, and fields written with the Rust's plan and with others: every byte of the output, then what is read there.
 fn written(random: &mut Random, all: &mut Tally) {
-    let (mut w, mut r, mut b) = (Tally::of("write_aht_channel, written"), Tally::of("read_aht_channel, written"), Tally::of("read back: what was written"));
-    for _ in 0..120_000 {
+    let (mut p, mut w) = (Tally::of("plan_aht_channel, written"), Tally::of("write_aht_channel, written"));
+    let (mut r, mut b) = (Tally::of("read_aht_channel, written"), Tally::of("read back: what was written"));
+    for _ in 0..crate::times(120_000, 1_000_000) {
         let (row, x, start, end) = some_channel(random);
+        let best = ahtenc::plan_aht_channel(&row, start, end, &vectors(&x));
+        let (mut planned, mut want) = (ours::Plan::filled(), plan_of(random, &best));
+        want.gains[best.gains.len()..].fill(0);
+        let refusal = ours::plan_aht_channel(&row, start, end, &x, &mut planned);
+        p.case(refusal == 0 && planned == want, || format!("{row:?} {start} {end} {x:?}: {refusal} {planned:?}, not {want:?}"));
         let rust = some_plan(random, &row, start, end, &x);
         let (at, total) = (random.below(40), 2 + rust.payload_bits as usize);
         let len = (at + total).div_ceil(8) + random.below(3);
         let before = random.bytes(len);
         let (want, n) = with_field(&before, at, &rust, &row, start, end, &x);
         let mut out = before.clone();
-        let mut p = ours::Pos::of(at);
-        let refusal = ours::write_aht_channel(&plan_of(random, &rust), &row, start, end, &x, &mut out, &mut p);
-        w.case(refusal == 0 && n == total && out == want && p == ours::Pos::of(at + total), || {
-            format!("{row:?} {start} {end} {x:?} {rust:?} at {at}: {refusal} {out:?} {p:?}, not {want:?}")
+        let mut next = ours::Pos::of(at);
+        let refusal = ours::write_aht_channel(&plan_of(random, &rust), &row, start, end, &x, &mut out, &mut next);
+        w.case(refusal == 0 && n == total && out == want && next == ours::Pos::of(at + total), || {
+            format!("{row:?} {start} {end} {x:?} {rust:?} at {at}: {refusal} {out:?} {next:?}, not {want:?}")
         });
         let shown = read_both(&mut r, random, &out, at, &row, start, end);
         // the plan, the search's indices and the quantiser's values come back
@@ -156,6 +162,7 @@ fn written(random: &mut Random, all: &mut Tally) {
         });
         b.case(back, || format!("{row:?} {start} {end} {x:?} {rust:?} at {at}"));
     }
+    p.close(all);
     w.close(all);
     r.close(all);
     b.close(all);
@@ -164,7 +171,7 @@ fn written(random: &mut Random, all: &mut Tally) {
 /// The writer's refusals, the lowest number first; every byte stays.
 fn refused(random: &mut Random, all: &mut Tally) {
     let mut t = Tally::of("write_aht_channel, faults");
-    for _ in 0..60_000 {
+    for _ in 0..crate::times(60_000, 60_000) {
         let (mut row, mut x, mut start, mut end) = some_channel(random);
         let rust = some_plan(random, &row, start, end, &x);
         let total = 2 + rust.payload_bits as usize;
@@ -246,7 +253,7 @@ fn damaged(random: &mut Random, all: &mut Tally) {
     let mut t = Tally::of("read_aht_channel, damaged");
     let mut made_up = Tally::of("read_aht_channel, random");
     let mut seen = [0u64; 11];
-    for _ in 0..100_000 {
+    for _ in 0..crate::times(100_000, 300_000) {
         let (row, x, start, end) = some_channel(random);
         let rust = some_plan(random, &row, start, end, &x);
         let at = random.below(17);
@@ -276,13 +283,13 @@ fn damaged(random: &mut Random, all: &mut Tally) {
     t.close(all);
     made_up.close(all);
     println!("compare: of these {} were accepted, {} refused with 8, {} with 9, {} with 10", seen[0], seen[8], seen[9], seen[10]);
-    assert!([0, 8, 9, 10].iter().all(|&k| seen[k] > 10_000), "each answer is met");
+    assert!([0, 8, 9, 10].iter().all(|&k| seen[k] > crate::times(10_000, 10_000) as u64), "each answer is met");
 }
 
 /// Fields that end after each of their bits.
 fn cut(random: &mut Random, all: &mut Tally) {
     let mut t = Tally::of("read_aht_channel, cut");
-    for _ in 0..1_500 {
+    for _ in 0..crate::times(1_500, 1_500) {
         let (row, x) = {
             let bins = random.below(9);
             channel(random, bins)
@@ -305,7 +312,7 @@ fn cut(random: &mut Random, all: &mut Tally) {
 /// The reader's causes 1 to 4, before any bit is looked at.
 fn outputs(random: &mut Random, all: &mut Tally) {
     let mut t = Tally::of("read_aht_channel, faults");
-    for _ in 0..40_000 {
+    for _ in 0..crate::times(40_000, 40_000) {
         let (mut row, _, mut start, mut end) = some_channel(random);
         let mut got = patterned(random, row.len());
         for _ in 0..1 + random.below(2) {

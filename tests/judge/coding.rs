@@ -46,7 +46,7 @@ fn vq_search(random: &mut Random, all: &mut Tally) {
             }
         }
     }
-    for _ in 0..60_000 {
+    for _ in 0..crate::times(60_000, 60_000) {
         let hebap = random.below(9) as u8;
         let size = book_size(hebap);
         let x: [f32; 6] = if size > 0 && random.below(2) == 0 {
@@ -92,7 +92,7 @@ fn quantise_scalar(random: &mut Random, all: &mut Tally) {
             if !allowed(hebap, gk) {
                 continue;
             }
-            for _ in 0..25_000 {
+            for _ in 0..crate::times(25_000, 170_000) {
                 let x = component(random);
                 one(hebap, gk, x);
                 let x = aimed(random, hebap, gk);
@@ -105,7 +105,7 @@ fn quantise_scalar(random: &mut Random, all: &mut Tally) {
 
 fn quantise_bin(random: &mut Random, all: &mut Tally) {
     let mut t = Tally::of("quantise_bin");
-    for _ in 0..100_000 {
+    for _ in 0..crate::times(100_000, 1_000_000) {
         let hebap = 7 + random.below(14) as u8;
         let gk = random.pick(&[1u8, 2, 4, 4, 2, 3]);
         let mut x: [f32; 6] = core::array::from_fn(|_| if allowed(hebap, gk) && random.below(2) == 0 { aimed(random, hebap, gk) } else { component(random) });
@@ -130,7 +130,7 @@ fn quantise_bin(random: &mut Random, all: &mut Tally) {
 
 fn plan(random: &mut Random, all: &mut Tally) {
     let (mut plans, mut refusals) = (Tally::of("plan_aht_channel, planned"), Tally::of("plan_aht_channel, refused"));
-    for i in 0..170_000 {
+    for i in 0..crate::times(170_000, 1_000_000) {
         let bins = match i % 8 {
             0 => random.below(257),
             1 => 256,

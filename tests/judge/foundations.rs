@@ -124,7 +124,7 @@ fn hebap_from_address(random: &mut Random, all: &mut Tally) {
             one(psd, mask);
         }
     }
-    for _ in 0..500_000 {
+    for _ in 0..crate::times(500_000, 500_000) {
         let psd = random.next() as i16;
         let mask = psd as i32 - random.below(2200) as i32 + 60;
         one(psd, mask);
@@ -162,7 +162,7 @@ fn fill_gaqbin(random: &mut Random, all: &mut Tally) {
             one(&[h], mode, 0);
         }
     }
-    for _ in 0..100_000 {
+    for _ in 0..crate::times(100_000, 100_000) {
         let len = random.below(300);
         let row: Vec<u8> = (0..len).map(|_| if random.below(8) == 0 { random.next() as u8 } else { random.below(21) as u8 }).collect();
         let places = if random.below(2) == 0 { len } else { random.below(300) };
@@ -184,7 +184,7 @@ fn gaq_sections(random: &mut Random, all: &mut Tally) {
             one(mode, active);
         }
     }
-    for _ in 0..100_000 {
+    for _ in 0..crate::times(100_000, 100_000) {
         one(random.below(4) as u8, random.next() as usize);
     }
     t.close(all);
@@ -243,7 +243,7 @@ fn read_gaq_gains(random: &mut Random, all: &mut Tally) {
             }
         }
     }
-    for _ in 0..400_000 {
+    for _ in 0..crate::times(400_000, 400_000) {
         let len = random.below(14);
         let src = random.bytes(len);
         let p = if random.below(10) == 0 { random.pick(&positions(len)) } else { Pos::of(random.below(8 * len + 2)) };
@@ -329,7 +329,7 @@ fn scalar_random(random: &mut Random, all: &mut Tally) {
             }
         }
     }
-    for _ in 0..500_000 {
+    for _ in 0..crate::times(500_000, 500_000) {
         let len = random.below(30);
         let src = random.bytes(len);
         let p = if random.below(10) == 0 { random.pick(&positions(len)) } else { Pos::of(random.below(8 * len + 2)) };

@@ -5,7 +5,7 @@
 //! `6 * k` to `6 * k + 5`. A call works on the bins `start` to `end - 1`.
 //!
 //! [`plan`] finds the mode and the gains of fewest bits, [`write()`] puts the field of a plan into an output, with exactly the bits that the
-//! plan announces, and [`read`] reads a field back.
+//! plan announces, and [`read`] reads a field back. The small calls under them, such as [`search`], [`quantise_bin`] and [`read_u32`], are there too.
 //!
 //! ```
 //! use fathrugg::{plan, read, write, Plan, Position};
@@ -32,8 +32,8 @@
 //! # Ok::<(), fathrugg::Refusal>(())
 //! ```
 //!
-//! A call that refuses answers a [`Refusal`], and leaves every lent buffer and position as it was. Of causes that hold together the lowest
-//! number is answered, but [`read`] answers 8, 9 and 10 as they are met, and the quantiser 11 before 5.
+//! A call that refuses answers a [`Refusal`], and leaves every lent buffer and position as it was. Of causes that hold together it answers the
+//! first in the order that its description has them in.
 //!
 //! What is proved is the library: that its functions meet their contracts for every input and stay inside their buffers. These
 //! declarations of them are not.
@@ -97,8 +97,38 @@ extern "C" {
         bits: *mut u32,
     ) -> u8;
     fn fathrugg_vq_search(hebap: u8, x: *const f32, index: *mut usize) -> u8;
+    fn fathrugg_vq_lookup(hebap: u8, index: usize, out: *mut f32) -> u8;
     fn fathrugg_quantise_scalar(hebap: u8, gk: u8, x: f32, large: *mut u8, code: *mut u32, value: *mut f32) -> u8;
     fn fathrugg_quantise_bin(hebap: u8, gk: u8, x: *const f32, values: *mut f32, bits: *mut u32, err: *mut f32) -> u8;
+    fn fathrugg_read_u32(src: *const u8, src_len: usize, byte: *mut usize, bit: *mut u32, n: u32, value: *mut u32) -> u8;
+    fn fathrugg_write_u32(out: *mut u8, out_len: usize, byte: *mut usize, bit: *mut u32, v: u32, n: u32) -> u8;
+    fn fathrugg_hebap_from_address(psd: i16, mask: i32, hebap: *mut u8) -> u8;
+    fn fathrugg_endbap_for_gaqmod(gaqmod: u8, endbap: *mut u8) -> u8;
+    fn fathrugg_fill_gaqbin(row: *const u8, row_len: usize, gaqmod: u8, gaqbin: *mut i8, gaqbin_len: usize, active: *mut usize) -> u8;
+    fn fathrugg_gaq_sections(gaqmod: u8, active: usize, sections: *mut usize) -> u8;
+    fn fathrugg_gaq_gain_value(code: u8, gaqmod: u8, gain: *mut u8) -> u8;
+    fn fathrugg_read_gaq_gains(
+        src: *const u8,
+        src_len: usize,
+        byte: *mut usize,
+        bit: *mut u32,
+        gaqmod: u8,
+        nsections: usize,
+        out: *mut u8,
+        out_len: usize,
+        count: *mut usize,
+    ) -> u8;
+    fn fathrugg_read_scalar_aht_mantissas(
+        src: *const u8,
+        src_len: usize,
+        byte: *mut usize,
+        bit: *mut u32,
+        hebap: u8,
+        gaqmod: u8,
+        gaqbin: i8,
+        gain_code: u8,
+        out: *mut f32,
+    ) -> u8;
 }
 
 /// Why a call refused.
@@ -127,8 +157,7 @@ pub enum Refusal {
     UnusedCodeNotZero = 10,
     /// 11: the quantiser is asked for a hebap or gain that it does not have.
     UnknownToQuantiser = 11,
-    /// 12: a mode is above 3, a count of bits above 32, or a mask outside -65536 to 65536. No function of this crate answers it; other
-    /// calls of the library do.
+    /// 12: a mode is above 3, a count of bits above 32, or a mask outside -65536 to 65536.
     ArgumentOutOfRange = 12,
 }
 
@@ -442,4 +471,135 @@ pub fn quantise_bin(hebap: u8, gk: u8, x: &[f32; 6]) -> Result<QuantisedBin, Ref
     // SAFETY: `x` and `values` have their six places.
     answer(unsafe { fathrugg_quantise_bin(hebap, gk, x.as_ptr(), b.values.as_mut_ptr(), &mut b.bits, &mut b.err) })?;
     Ok(b)
+}
+
+/// The vector at an index of the book of the hebap, counted round the book; six zeros where there is no book, outside hebap 1 to 7.
+pub fn lookup(hebap: u8, index: usize) -> [f32; 6] {
+    let mut out = [0.0; 6];
+    // SAFETY: `out` has its six places.
+    let number = unsafe { fathrugg_vq_lookup(hebap, index, out.as_mut_ptr()) };
+    assert_eq!(number, 0, "this call never refuses");
+    out
+}
+
+/// The next `n` bits, 0 to 32 of them, as a number; moves the position behind them.
+///
+/// Refusals 12, then 8.
+pub fn read_u32(src: &[u8], position: &mut Position, n: u32) -> Result<u32, Refusal> {
+    let mut value = 0;
+    // SAFETY: the pointer goes with the length of its slice, the others are to numbers.
+    answer(unsafe { fathrugg_read_u32(src.as_ptr(), src.len(), &mut position.byte, &mut position.bit, n, &mut value) })?;
+    Ok(value)
+}
+
+/// Puts the low `n` bits of `v`, 0 to 32 of them, at the position, and moves it behind them; every other bit of the output is kept.
+///
+/// Refusals 12, then 7.
+pub fn write_u32(out: &mut [u8], position: &mut Position, v: u32, n: u32) -> Result<(), Refusal> {
+    // SAFETY: the pointer goes with the length of its slice, the others are to numbers.
+    answer(unsafe { fathrugg_write_u32(out.as_mut_ptr(), out.len(), &mut position.byte, &mut position.bit, v, n) })
+}
+
+/// The hebap of a power density and a mask after its floor, -65536 to 65536.
+///
+/// Refusal 12.
+pub fn hebap_from_address(psd: i16, mask: i32) -> Result<u8, Refusal> {
+    let mut hebap = 0;
+    // SAFETY: the pointer is to a local.
+    answer(unsafe { fathrugg_hebap_from_address(psd, mask, &mut hebap) })?;
+    Ok(hebap)
+}
+
+/// The hebap up to which, not included, [`fill_gaqbin`] marks bins with 1: 12 in modes 0 and 1, 17 in modes 2 and 3.
+///
+/// Refusal 12.
+pub fn endbap_for_gaqmod(gaqmod: u8) -> Result<u8, Refusal> {
+    let mut endbap = 0;
+    // SAFETY: the pointer is to a local.
+    answer(unsafe { fathrugg_endbap_for_gaqmod(gaqmod, &mut endbap) })?;
+    Ok(endbap)
+}
+
+/// Marks the bins of a row: 1 for hebap 8 up to the mode's [`endbap_for_gaqmod`], not included (also in mode 0, where no gain is read), -1
+/// from there on, else 0. Of the two lengths the lower counts. How many bins are marked with 1 is the answer.
+///
+/// Refusal 12.
+pub fn fill_gaqbin(row: &[u8], gaqmod: u8, gaqbin: &mut [i8]) -> Result<usize, Refusal> {
+    let mut active = 0;
+    // SAFETY: each pointer goes with the length of its slice.
+    answer(unsafe { fathrugg_fill_gaqbin(row.as_ptr(), row.len(), gaqmod, gaqbin.as_mut_ptr(), gaqbin.len(), &mut active) })?;
+    Ok(active)
+}
+
+/// How many gain words so many active bins have: none in mode 0, one each in modes 1 and 2, one for each three begun in mode 3.
+///
+/// Refusal 12.
+pub fn gaq_sections(gaqmod: u8, active: usize) -> Result<usize, Refusal> {
+    let mut sections = 0;
+    // SAFETY: the pointer is to a local.
+    answer(unsafe { fathrugg_gaq_sections(gaqmod, active, &mut sections) })?;
+    Ok(sections)
+}
+
+/// Gk of a gain code: 1 for code 0; for a higher one 2 in mode 1, 4 in mode 2, and in mode 3 2 for code 1, else 4; in mode 0 always 1.
+///
+/// Refusal 12.
+pub fn gaq_gain_value(code: u8, gaqmod: u8) -> Result<u8, Refusal> {
+    let mut gain = 0;
+    // SAFETY: the pointer is to a local.
+    answer(unsafe { fathrugg_gaq_gain_value(code, gaqmod, &mut gain) })?;
+    Ok(gain)
+}
+
+/// Reads `nsections` gain words and puts their codes, 0 to 2, to the front of the output, as far as it goes; moves the position. It is laxer
+/// than [`read`]: of a group word above 26 the first code is cut to 2. How many codes were put there is the answer.
+///
+/// Refusals 12, then 8.
+pub fn read_gaq_gains(src: &[u8], position: &mut Position, gaqmod: u8, nsections: usize, out: &mut [u8]) -> Result<usize, Refusal> {
+    let mut count = 0;
+    // SAFETY: each pointer goes with the length of its slice, the others are to numbers.
+    answer(unsafe {
+        fathrugg_read_gaq_gains(
+            src.as_ptr(),
+            src.len(),
+            &mut position.byte,
+            &mut position.bit,
+            gaqmod,
+            nsections,
+            out.as_mut_ptr(),
+            out.len(),
+            &mut count,
+        )
+    })?;
+    Ok(count)
+}
+
+/// Reads the six mantissas of a bin and moves the position. Gk is that of `gain_code` where `gaqbin` is 1, else 1. For hebap 0 to 7 it reads
+/// nothing and gives zeros.
+///
+/// Refusals 12, 4, then 8.
+pub fn read_scalar_aht_mantissas(
+    src: &[u8],
+    position: &mut Position,
+    hebap: u8,
+    gaqmod: u8,
+    gaqbin: i8,
+    gain_code: u8,
+) -> Result<[f32; 6], Refusal> {
+    let mut out = [0.0; 6];
+    // SAFETY: the pointer goes with the length of its slice, `out` has its six places, the others are to numbers.
+    answer(unsafe {
+        fathrugg_read_scalar_aht_mantissas(
+            src.as_ptr(),
+            src.len(),
+            &mut position.byte,
+            &mut position.bit,
+            hebap,
+            gaqmod,
+            gaqbin,
+            gain_code,
+            out.as_mut_ptr(),
+        )
+    })?;
+    Ok(out)
 }

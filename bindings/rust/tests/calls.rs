@@ -1,7 +1,10 @@
 //! The crate's functions: channels written and read back, and each refusal with what was lent.
 #![forbid(unsafe_code)]
 
-use fathrugg::{plan, quantise_bin, quantise_scalar, read, search, write, Channel, Code, Plan, Position, Refusal};
+use fathrugg::{
+    endbap_for_gaqmod, fill_gaqbin, gaq_gain_value, gaq_sections, hebap_from_address, lookup, plan, quantise_bin, quantise_scalar, read, read_gaq_gains,
+    read_scalar_aht_mantissas, read_u32, search, write, write_u32, Channel, Code, Plan, Position, Refusal,
+};
 use std::error::Error;
 
 /// The position of a bit.
@@ -479,7 +482,7 @@ fn refusal_11_unknown_to_quantiser() {
     }
 }
 
-// 12 is answered by none of these functions: here only its number and words.
+// Each refusal by its number and its words; 12 is met by the small calls below.
 #[test]
 fn numbers_and_words() {
     let mut words = Vec::new();
@@ -498,4 +501,82 @@ fn numbers_and_words() {
         assert_eq!(Refusal::from_number(number), None);
     }
     assert_eq!(std::mem::size_of::<Refusal>(), 1);
+}
+
+// ---- the small calls; what is expected is worked out by hand from Annex E, 3.4
+
+#[test]
+fn numbers_as_bits() {
+    let mut out = [0xff, 0x00, 0xff];
+    let mut here = position(3);
+    assert_eq!(write_u32(&mut out, &mut here, 0b0_1010_0101, 9), Ok(()));
+    // 111 0 1010 0101 0000 1111 1111: the bits in front and behind are kept
+    assert_eq!((out, here), ([0b1110_1010, 0b0101_0000, 0xff], position(12)));
+    let mut here = position(3);
+    assert_eq!(read_u32(&out, &mut here, 9), Ok(0b0_1010_0101));
+    assert_eq!(here, position(12));
+    assert_eq!(read_u32(&out, &mut here, 0), Ok(0));
+    assert_eq!(read_u32(&out, &mut here, 13), Err(Refusal::InputEnds));
+    assert_eq!(read_u32(&out, &mut here, 33), Err(Refusal::ArgumentOutOfRange));
+    assert_eq!(write_u32(&mut out, &mut here, 0, 13), Err(Refusal::OutputEnds));
+    assert_eq!(write_u32(&mut out, &mut here, 0, 33), Err(Refusal::ArgumentOutOfRange));
+    assert_eq!((out, here), ([0b1110_1010, 0b0101_0000, 0xff], position(12)));
+}
+
+#[test]
+fn hebap_of_an_address() {
+    // the first and the last entry of Table E3.1, and the ninth, at the address 8: (psd - mask) / 32, held to 0 to 63
+    assert_eq!(hebap_from_address(0, 1), Ok(0));
+    assert_eq!(hebap_from_address(8 * 32, 0), Ok(8));
+    assert_eq!(hebap_from_address(i16::MAX, -65536), Ok(19));
+    assert_eq!(hebap_from_address(0, 65537), Err(Refusal::ArgumentOutOfRange));
+    assert_eq!(hebap_from_address(0, -65537), Err(Refusal::ArgumentOutOfRange));
+}
+
+#[test]
+fn gains_of_a_row() {
+    assert_eq!((0..4).map(|m| endbap_for_gaqmod(m).unwrap()).collect::<Vec<_>>(), [12, 12, 17, 17]);
+    let row = [0, 7, 8, 11, 12, 16, 17, 19];
+    let mut marks = [9; 8];
+    assert_eq!(fill_gaqbin(&row, 1, &mut marks), Ok(2));
+    assert_eq!(marks, [0, 0, 1, 1, -1, -1, -1, -1]);
+    assert_eq!(fill_gaqbin(&row, 3, &mut marks), Ok(4));
+    assert_eq!(marks, [0, 0, 1, 1, 1, 1, -1, -1]);
+    assert_eq!((0..4).map(|m| gaq_sections(m, 4).unwrap()).collect::<Vec<_>>(), [0, 4, 4, 2]);
+    assert_eq!((0..4).map(|m| gaq_gain_value(1, m).unwrap()).collect::<Vec<_>>(), [1, 2, 4, 2]);
+    assert_eq!(gaq_gain_value(2, 3), Ok(4));
+    // two group words: 1 * 9 + 2 * 3 + 0 and 31, whose first code is cut to 2
+    let (words, mut codes, mut here) = (bytes_of(&[(15, 5), (31, 5)]), [9; 7], position(0));
+    assert_eq!(read_gaq_gains(&words, &mut here, 3, 2, &mut codes), Ok(6));
+    assert_eq!((codes, here), ([1, 2, 0, 2, 1, 1, 9], position(10)));
+    assert_eq!(read_gaq_gains(&words, &mut here, 3, 2, &mut codes), Err(Refusal::InputEnds));
+    for refused in [endbap_for_gaqmod(4).err(), fill_gaqbin(&row, 4, &mut marks).err(), gaq_sections(4, 1).err(), gaq_gain_value(0, 4).err()] {
+        assert_eq!(refused, Some(Refusal::ArgumentOutOfRange));
+    }
+    assert_eq!(read_gaq_gains(&words, &mut here, 4, 2, &mut codes), Err(Refusal::ArgumentOutOfRange));
+    assert_eq!((marks, codes, here), ([0, 0, 1, 1, 1, 1, -1, -1], [1, 2, 0, 2, 1, 1, 9], position(10)));
+}
+
+#[test]
+fn mantissas_and_vectors() {
+    // hebap 19 at Gk 1: six numbers of 16 bits over 2^15; Table E3.6 has a = b = 0 there
+    let src = bytes_of(&[(0x4000, 16), (0xc000, 16), (1, 16), (0, 16), (0xffff, 16), (0x7fff, 16)]);
+    let mut here = position(0);
+    let unit = 1.0 / 32768.0;
+    assert_eq!(read_scalar_aht_mantissas(&src, &mut here, 19, 0, -1, 0), Ok([0.5, -0.5, unit, 0.0, -unit, 1.0 - unit]));
+    assert_eq!(here, position(96));
+    assert_eq!(read_scalar_aht_mantissas(&src, &mut here, 19, 0, -1, 0), Err(Refusal::InputEnds));
+    assert_eq!(read_scalar_aht_mantissas(&src, &mut here, 20, 0, -1, 0), Err(Refusal::HebapAbove19));
+    assert_eq!(read_scalar_aht_mantissas(&src, &mut here, 20, 4, -1, 0), Err(Refusal::ArgumentOutOfRange));
+    assert_eq!(read_scalar_aht_mantissas(&src, &mut here, 7, 0, 0, 0), Ok([0.0; 6]));
+    assert_eq!(here, position(96));
+    // a vector of a book is its own nearest, and the index is counted round the book
+    for (hebap, size) in [(1, 4), (2, 8), (3, 16), (4, 32), (5, 128), (6, 256), (7, 512)] {
+        for index in [0, 1, size / 2, size - 1] {
+            let v = lookup(hebap, index);
+            assert_eq!(search(hebap, &v), Ok(index));
+            assert_eq!(lookup(hebap, index + size), v);
+        }
+    }
+    assert_eq!((lookup(0, 5), lookup(8, 5)), ([0.0; 6], [0.0; 6]));
 }

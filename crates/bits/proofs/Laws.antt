@@ -9,7 +9,7 @@ use native.Mathlib.Omega.{arith}
 use lib.ListN.{length, take, drop, getD, set, take-append-drop, length-append, length-take, length-drop}
 use lib.Pow.{pow-add, mod-pow-add, shr-shr, field, mod-mod-pow, high, low, pow-pos, pow-mono, shr-lt}
 use lib.Arith.{digits-lt}
-use lib.Seq.{split-at, take-add, length-take-le, take-append-seam, drop-append-seam, drop-append-add, set-split, drop-at, take-at, drop-drop, drop-nil}
+use lib.Seq.{split-at, take-add, length-take-le, take-append-seam, drop-append-seam, drop-append-add, set-split, drop-at, take-at, drop-drop, drop-nil, drop-cons, take-take}
 use lib.Dec.{leb, eqb}
 use borrow.Author.Tests.{le-leb, lt-leb, leb-true, leb-false}
 use Rattle.bits.specs.Bits.{bitOf, digit, bitsN, numberOf, bitsOf, splice, byteWith, bytesOf, bytesWith, posOf, readU32, writeU32, written}
@@ -205,6 +205,13 @@ read-written l at n v h =
     let e : take n (drop at (splice l at (bitsN n v))) ≡ bitsN n v =
     ap (λ (k : ℕ). take k (drop at (splice l at (bitsN n v)))) (sym (length-bitsN n v)) ∙ splice-read l (bitsN n v) at h in
     rw e (number-bits n v)
+
+-- what stands inside the first m places stands there in the whole
+take-drop-take : {A : Type 0} (n r m : ℕ) (l : List A) → r + n ≤ m → take n (drop r (take m l)) ≡ take n (drop r l)
+take-drop-take n zero m l h = take-take n m l (omega arith)
+take-drop-take n (suc r) zero l h = let z : ⊥ = omega arith in absurd z
+take-drop-take n (suc r) (suc m) [] h = refl
+take-drop-take n (suc r) (suc m) (x ∷ l) h = take-drop-take n r m l (omega arith)
 
 pub number-take-lt : (i : ℕ) (l : List Bool) → numberOf (take i l) < 2 ^ i
 number-take-lt i l =
@@ -413,3 +420,41 @@ spread w n h =
       whole = mul-le-mul-right (n / 8) h;
       part = mul-le-mul-right (n % 8) h;
     }
+
+-- ---- four bytes at once
+
+-- the bits from a byte on begin with its own
+byte-first : (s : List ℕ) (q : ℕ) → q < length s → drop (8 * q) (bitsOf s) ≡ bitsN 8 (getD s q 0) ++ drop (8 * (q + 1)) (bitsOf s)
+unfolding bitsOf
+byte-first s q h =
+    let e : suc q ≡ q + 1 = omega arith in
+    drop-bytes q s ∙ ap bitsOf (drop-cons s q 0 h) ∙ ap (λ (l : List Bool). bitsN 8 (getD s q 0) ++ l) (sym (drop-bytes (suc q) s) ∙ ap (λ (k : ℕ). drop (8 * k) (bitsOf s)) e)
+
+-- a byte more behind n bits that are known
+byte-more : (s : List ℕ) (q p n h x : ℕ) (bs : List Bool) → p < length s → p + 1 ≡ q → x ≡ getD s p 0 → x < 2 ^ 8
+    → bs ≡ bitsN n h ++ drop (8 * p) (bitsOf s) → bs ≡ bitsN (n + 8) (h * 2 ^ 8 + x) ++ drop (8 * q) (bitsOf s)
+byte-more s q p n h x bs hp e ex hx eb =
+    eb ∙ rw (byte-first s p hp, ← ex, e, bitsN-cat n 8 h hx) (sym (append-assoc (bitsN n h) (bitsN 8 x) (drop (8 * q) (bitsOf s))))
+
+no-bits : bitsN 0 0 ≡ []
+unfolding bitsN
+no-bits = refl
+
+pub four-bytes : (s : List ℕ) (q a b c d : ℕ) → q + 4 ≤ length s → a ≡ getD s q 0 → b ≡ getD s (q + 1) 0 → c ≡ getD s (q + 2) 0 → d ≡ getD s (q + 3) 0
+    → a < 256 → b < 256 → c < 256 → d < 256 → take 32 (drop (8 * q) (bitsOf s)) ≡ bitsN 32 (a * 16777216 + b * 65536 + c * 256 + d)
+four-bytes s q a b c d h ea eb ec ed la lb lc ld =
+    let none : drop (8 * q) (bitsOf s) ≡ bitsN 0 0 ++ drop (8 * q) (bitsOf s) = sym (ap (λ (b : List Bool). b ++ drop (8 * q) (bitsOf s)) no-bits) in
+    let w : a * 16777216 + b * 65536 + c * 256 + d ≡ (((0 * 2 ^ 8 + a) * 2 ^ 8 + b) * 2 ^ 8 + c) * 2 ^ 8 + d = omega arith in
+    let l = drop (8 * q) (bitsOf s) in
+    let p1 = byte-more s (q + 1) q 0 0 a l (omega arith) refl ea la none in
+    let p2 = byte-more s (q + 2) (q + 1) 8 (0 * 2 ^ 8 + a) b l (omega arith) (omega arith) eb lb p1 in
+    let p3 = byte-more s (q + 3) (q + 2) 16 ((0 * 2 ^ 8 + a) * 2 ^ 8 + b) c l (omega arith) (omega arith) ec lc p2 in
+    let p4 = byte-more s (q + 4) (q + 3) 24 (((0 * 2 ^ 8 + a) * 2 ^ 8 + b) * 2 ^ 8 + c) d l (omega arith) (omega arith) ed ld p3 in
+    rw (w) (ap (take 32) p4 ∙ take-at (bitsN 32 ((((0 * 2 ^ 8 + a) * 2 ^ 8 + b) * 2 ^ 8 + c) * 2 ^ 8 + d)) (drop (8 * (q + 4)) (bitsOf s)) 32 (length-bitsN 32 _))
+
+-- n of 32 bits that are known, from the bit r on
+pub number-short : (l : List Bool) (p r n w : ℕ) → r + n ≤ 32 → take 32 (drop p l) ≡ bitsN 32 w → w / 2 ^ (32 - r - n) % 2 ^ n ≡ numberOf (take n (drop (p + r) l))
+number-short l p r n w h e =
+    let t : take n (drop (p + r) l) ≡ bitsN n (w / 2 ^ (32 - r - n)) =
+    ap (take n) (sym (drop-drop r p l)) ∙ sym (take-drop-take n r 32 (drop p l) h) ∙ ap (λ (b : List Bool). take n (drop r b)) e ∙ bits-part 32 r n w h in
+    sym (rw t (number-bits n (w / 2 ^ (32 - r - n))))

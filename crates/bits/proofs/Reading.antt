@@ -5,12 +5,12 @@ use mathlib.Core.List.{List}
 use mathlib.Core.Bool.{Bool, true, false}
 use mathlib.Core.Logic.{_⊎_, inl, inr}
 use native.Mathlib.Omega.{arith}
-use lib.ListN.{length, drop, length-drop}
+use lib.ListN.{length, take, drop, length-drop}
 use lib.Seq.{drop-drop}
 use lib.Dec.{leb}
 use borrow.Author.Tests.{le-leb, lt-leb, leb-true, leb-false}
-use Rattle.bits.specs.Bits.{bitsOf, bitAt, posOf, readU32, Inside}
-use Rattle.bits.specs.Format.{number, numberIn}
+use Rattle.bits.specs.Bits.{bitsOf, numberOf, bitAt, posOf, readU32, Inside}
+use Rattle.bits.specs.Format.{number, numberIn, got, refused}
 use Rattle.bits.specs.declared.BitPos.{BitPos}
 use Rattle.bits.specs.declared.BitRead.{BitRead}
 use Rattle.bits.specs.declared.BitRead.the-variants.{Number}
@@ -72,3 +72,15 @@ module _ (s : List ℕ) (at n : ℕ) (few : n ≤ 32) where
           let f : 8 * length s < at + n = leb-false _ _ q in
           let z : _≡_ {A = ℕ} 0 1 = cc (read-short s at n few f) in
           absurd (omega arith)
+
+  -- ---- the same where the position has said by `holds` whether the bits are there
+  -- n bits are there
+  pub number-there : at + n ≤ 8 * length s → number n .dec (drop at (bitsOf s)) ≡ got (numberOf (take n (drop at (bitsOf s)))) (drop (bitAt (posOf (at + n))) (bitsOf s))
+  number-there f = number-good f ∙ ap (numberIn (bitsOf s)) (read-good s at n few f)
+
+  pub behind-inside : at + n ≤ 8 * length s → Inside (8 * length s) (posOf (at + n))
+  behind-inside f = (omega arith, omega arith)
+
+  -- they are not
+  pub number-missing : 8 * length s < at + n → 0 < n ⊎ at ≤ 8 * length s → number n .dec (drop at (bitsOf s)) ≡ refused 8
+  number-missing f o = number-short f o ∙ ap (numberIn (bitsOf s)) (read-short s at n few f)

@@ -2,7 +2,7 @@
 ghost use mathlib.Core.Path.{_≡_};
 ghost use Prim.Native.Nat.{_+_, _*_, _<_, _≤_, _^_};
 ghost use lib.Dec.{leb};
-ghost use lib.ListN.{length, take, drop};
+ghost use lib.ListN.{length, take, drop, getD};
 ghost use Rattle.bits.specs.Bits.{bitsOf, bitsN, numberOf, splice, byteWith, bitAt, posOf, readU32, writeU32, written};
 
 // The bit 8 * byte + bit.
@@ -31,7 +31,7 @@ fn pow2(k: u32) -> u32
 }
 
 fn wide(b: u8) -> u32
-    ensures { λ r. ⌜ r ≡ b ⌝ }
+    ensures { λ r. ⌜ (r ≡ b) × (r < 256) ⌝ }
 {
     b as u32
 }
@@ -45,7 +45,7 @@ fn step(r: u32, left: u32) -> u32
 }
 
 // The number that n bits show, from the bit r of the byte q on, a byte at a time.
-fn number_at(src: &[u8], q: usize, r: u32, n: u32) -> u32
+fn by_bytes(src: &[u8], q: usize, r: u32, n: u32) -> u32
     requires { ⌜ (n ≤ 32) × (r < 8) × (8 * q + r + n ≤ 8 * length (now src)) ⌝ }
     ensures { λ v. ⌜ v ≡ numberOf (take n (drop (8 * q + r) (bitsOf (now (src .entry))))) ⌝ }
 {
@@ -63,6 +63,40 @@ fn number_at(src: &[u8], q: usize, r: u32, n: u32) -> u32
         p = (p + c) % 8;
     }
     v
+}
+
+fn byte_at(src: &[u8], q: usize) -> u32
+    requires { ⌜ q < length (now src) ⌝ }
+    ensures { λ r. ⌜ (r ≡ getD (now (src .entry)) q 0) × (r < 256) ⌝ }
+{
+    wide(src[q])
+}
+
+// Four bytes as one number, the first the heaviest.
+fn four_bytes(src: &[u8], q: usize) -> u32
+    requires { ⌜ q + 4 ≤ length (now src) ⌝ }
+    ensures { λ w. ⌜ w < 2 ^ 32 ⌝ }
+    ensures { λ w. ⌜ take 32 (drop (8 * q) (bitsOf (now (src .entry)))) ≡ bitsN 32 w ⌝ }
+{
+    byte_at(src, q) * 16777216
+        + byte_at(src, q + 1) * 65536
+        + byte_at(src, q + 2) * 256
+        + byte_at(src, q + 3)
+}
+
+// The number that n bits show, from the bit r of the byte q on: out of four bytes at once where that will do.
+fn number_at(src: &[u8], q: usize, r: u32, n: u32) -> u32
+    requires { ⌜ (n ≤ 32) × (r < 8) × (8 * q + r + n ≤ 8 * length (now src)) ⌝ }
+    ensures { λ v. ⌜ v ≡ numberOf (take n (drop (8 * q + r) (bitsOf (now (src .entry))))) ⌝ }
+{
+    if 0 < n {
+        if r + n < 32 {
+            if q + 4 <= src.len() {
+                return (four_bytes(src, q) >> (32 - r - n)) % pow2(n);
+            }
+        }
+    }
+    by_bytes(src, q, r, n)
 }
 
 // The byte x with c bits, those of w, put at its bit r.
@@ -129,19 +163,25 @@ impl BitPos {
         }
     }
 
+    // The number that the next n bits show, of which holds has said that they are there.
+    pub fn number(self, src: &[u8], n: u32) -> u32
+        requires { ⌜ (n ≤ 32) × (bitAt self + n ≤ 8 * length (now src)) ⌝ }
+        ensures { λ v. ⌜ v ≡ numberOf (take n (drop (bitAt self) (bitsOf (now (src .entry))))) ⌝ }
+    {
+        let byte = self.byte;
+        let bit = self.bit;
+        number_at(src, byte + (bit / 8) as usize, bit % 8, n)
+    }
+
     // The next n bits as an unsigned number. Refuses with 12, then 8.
     pub fn read_u32(self, src: &[u8], n: u32) -> BitRead
         ensures { λ r. ⌜ r ≡ readU32 (now (src .entry)) (bitAt self) n ⌝ }
     {
-        let byte = self.byte;
-        let bit = self.bit;
         if 32 < n {
             return BitRead::Refused(12);
         }
         if self.holds(src.len(), 1, n as usize) {
-            let q = byte + (bit / 8) as usize;
-            let r = bit % 8;
-            BitRead::Number(number_at(src, q, r, n), self.after(1, n as usize))
+            BitRead::Number(self.number(src, n), self.after(1, n as usize))
         } else {
             BitRead::Refused(8)
         }

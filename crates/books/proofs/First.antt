@@ -1,7 +1,7 @@
 -- The search finds the first index of least distance. Assumes nothing.
 use Prim.Native.Nat.{ℕ, zero, suc, _+_, _-_, _*_, _^_, _≤_, _<_}
 use mathlib.Core.Path.{_≡_, refl, sym, _∙_, subst}
-use mathlib.Core.Bool.{Bool, true, false, not, _&&_, _||_, cond, true≢false, Bool·beq}
+use mathlib.Core.Bool.{Bool, true, false, not, _&&_, cond, true≢false, Bool·beq}
 use mathlib.Core.List.{List, [], _∷_}
 use mathlib.Core.Logic.{_⊎_, inl, inr}
 use native.Mathlib.Nat.{not-le-of-lt, lt-of-not-le, eq-or-lt-of-le, le-of-lt, le-antisymm, add-zero, add-suc, suc-add}
@@ -20,9 +20,10 @@ use Rattle.levels.specs.Component.{tooLarge, someTooLarge}
 use Rattle.levels.specs.Value.{q15}
 use Rattle.books.specs.Books.{termOf, sumTo, distanceOf, searchFrom, nearestIn, FirstLeast, searchOf, vqSearch}
 use Rattle.books.specs.declared.SearchResult.the-variants.{Index}
+use Rattle.books.proofs.Steps.{or-false}
 
 -- ---- no NaN, and no NaN and not below zero
-abbrev real : Float → Bool
+abbrev pub real : Float → Bool
 real nan = false
 real (inf s) = true
 real (fin s m e) = true
@@ -115,7 +116,7 @@ unfolding ofInt
 int-real (pos n) = round-real binary32 false n 1
 int-real (negsuc n) = round-real binary32 true (suc n) 1
 
-entry-real : (z : ℤ) → T (real (q15 z))
+pub entry-real : (z : ℤ) → T (real (q15 z))
 unfolding q15 ofBits
 entry-real z = quotient-real (ofInt binary32 z) (int-real z)
 
@@ -124,10 +125,6 @@ unfolding termOf
 term-plain d x e h p = add-plain d (mul binary32 (sub binary32 x (q15 e)) (sub binary32 x (q15 e))) p (square-plain (sub binary32 x (q15 e)) (sub-real x (q15 e) h (entry-real e)))
 
 -- ---- components that are accepted
-or-false : (a b : Bool) → a || b ≡ false → (a ≡ false) × (b ≡ false)
-or-false true b h = absurd (true≢false h)
-or-false false b h = (refl, h)
-
 each-accepted : (x : List Float) (j : ℕ) → someTooLarge x ≡ false → j < length x → tooLarge (getD x j nan) ≡ false
 each-accepted [] j h k = absurd (omega arith)
 each-accepted (y ∷ x) zero h k = or-false (tooLarge y) (someTooLarge x) h .0

@@ -1,4 +1,6 @@
 pub mod Steps
+pub mod Columns
 pub mod Laws
 pub mod First
+pub mod Loading
 pub mod Vectors

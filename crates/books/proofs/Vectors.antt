@@ -1,15 +1,23 @@
--- A vector of a book, put at a place of a list, a number at a time. Assumes nothing.
-use Prim.Native.Nat.{ℕ, suc, _+_, _≤_, _<_}
-use mathlib.Core.Path.{_≡_, refl, sym, ap, _∙_}
+-- A vector of a book: put at a place of a list a number at a time, and found where the seven books are loaded. Assumes nothing.
+use Prim.Native.Nat.{ℕ, suc, _+_, _*_, _%_, _^_, _≤_, _<_}
+use mathlib.Core.Path.{_≡_, sym, ap, _∙_}
+use mathlib.Core.Bool.{true}
 use mathlib.Core.List.{List, [], _∷_, _++_, map}
+use native.Mathlib.Nat.{mod-eq-of-lt}
 use native.Mathlib.Omega.{arith}
+use borrow.Author.Tests.{le-leb}
 use lib.IntN.{ℤ, pos}
-use lib.ListN.{length, length-append, length-drop, take, drop, getD, set}
-use lib.Seq.{take-suc, drop-cons, getD-drop, length-take-le, take-append-le, drop-append-le}
+use lib.Ieee.{Float}
+use lib.ListN.{length, length-drop, take, drop, getD, set, take-append-drop}
+use lib.Seq.{take-suc, drop-cons, getD-drop, length-take-le, drop-drop}
 use Rattle.bits.specs.Bits.{splice}
 use Rattle.bits.proofs.Copying.{put-more}
+use Rattle.tables.specs.Tables.{book, vqBits}
 use Rattle.levels.specs.Value.{q15}
-use Rattle.books.specs.Books.{sixAt, exactEntry, exactsAt}
+use Rattle.tables.proofs.Rules.{book-size}
+use Rattle.books.specs.Books.{hasBook, vectorsOf, sixAt, vqLookup, exactEntry, exactsAt, vqExact}
+use Rattle.books.specs.Work.{placeOf, VectorsLoaded}
+use Rattle.books.proofs.Loading.{part-front, place-later, place-end}
 
 module _ (b : List ℤ) (a : ℕ) (h : a + 6 ≤ length b) where
   next : (n k : ℕ) → k < 6 → take (suc n) (drop (a + k) b) ≡ getD b (a + k) (pos 0) ∷ take n (drop (a + suc k) b)
@@ -48,16 +56,44 @@ module _ (b : List ℤ) (a : ℕ) (h : a + 6 ≤ length b) where
       rw (take-suc (drop a b) j (pos 0) (omega arith)) (put-more f v at (take j (drop a b)) (getD (drop a b) j (pos 0)) (omega arith)) in
       rw (s, o, d) (rw k at p)
 
--- what stands behind a book does not matter
-module _ (b r : List ℤ) (a : ℕ) (h : a + 6 ≤ length b) where
-  longer : a + 6 ≤ length (b ++ r)
-  longer = rw length-append (omega arith)
+-- the vector at an index of a book, counted round
+pub looked-up : (h k n i : ℕ) (b : List ℤ) (r : List Float) → h ≡ k → hasBook k ≡ true → n ≡ 2 ^ vqBits k → b ≡ book k → r ≡ sixAt b (i % n * 6) → r ≡ vqLookup h i
+unfolding vqLookup
+looked-up h k n i b r e t m f g = rw (e, t, ← m, ← f) g
 
-  same-entries : take 6 (drop a (b ++ r)) ≡ take 6 (drop a b)
-  same-entries = let n = length-drop a b in rw (drop-append-le a b r (omega arith)) (take-append-le 6 (drop a b) r (omega arith))
+-- ---- a vector of a book that stands in a list
+module _ (l b : List ℤ) (p n a : ℕ) (e : take n (drop p l) ≡ b) (m : length b ≡ n) (h : a + 6 ≤ n) (u : p + n ≤ length l) where
+  same-entries : take 6 (drop (p + a) l) ≡ take 6 (drop a b)
+  same-entries =
+      let s : b ++ drop n (drop p l) ≡ drop p l = rw (← e) (take-append-drop n (drop p l)) in
+      rw (← drop-drop a p l, ← s) (part-front b (drop n (drop p l)) a 6 (omega arith))
 
-  pub same-six : sixAt (b ++ r) a ≡ sixAt b a
-  same-six = six-is (b ++ r) a longer ∙ ap (map q15) same-entries ∙ sym (six-is b a h)
+  pub same-six : sixAt l (p + a) ≡ sixAt b a
+  same-six = six-is l (p + a) (omega arith) ∙ ap (map q15) same-entries ∙ sym (six-is b a (omega arith))
 
-  pub same-exacts : exactsAt (b ++ r) a ≡ exactsAt b a
-  same-exacts = exacts-are (b ++ r) a longer ∙ ap (map exactEntry) same-entries ∙ sym (exacts-are b a h)
+  pub same-exacts : exactsAt l (p + a) ≡ exactsAt b a
+  same-exacts = exacts-are l (p + a) (omega arith) ∙ ap (map exactEntry) same-entries ∙ sym (exacts-are b a (omega arith))
+
+-- the vector at an index of a book, where the seven books are loaded
+pub record Stands (l : List ℤ) (h i : ℕ) : Type 0 where
+  pub inside : placeOf h + i * 6 + 6 ≤ 5736
+  pub whole : length l ≡ 5736
+  pub fractions : sixAt l (placeOf h + i * 6) ≡ vqLookup h i
+  pub exacts : exactsAt l (placeOf h + i * 6) ≡ vqExact h i
+
+pub stands : (l : List ℤ) (h i : ℕ) → 1 ≤ h → h ≤ 7 → i < 2 ^ vqBits h → VectorsLoaded l → Stands l h i
+unfolding vqLookup vqExact
+stands l h i a b u v =
+    let t : hasBook h ≡ true = rw (le-leb 1 h a, le-leb h 7 b) in
+    let n : vectorsOf h ≡ 2 ^ vqBits h = rw t in
+    let w = v .whole in
+    let q = place-later 8 h (omega arith) in
+    let z = place-end in
+    let s : length (book h) ≡ 6 * vectorsOf h = book-size h a b ∙ ap (λ k. 6 * k) (sym n) in
+    let m : i % 2 ^ vqBits h ≡ i = mod-eq-of-lt u in
+    record {
+      inside = omega arith;
+      whole = w;
+      fractions = rw (t, m) (same-six l (book h) (placeOf h) (6 * vectorsOf h) (i * 6) (v .each h a b) s (omega arith) (omega arith));
+      exacts = rw (t, m) (same-exacts l (book h) (placeOf h) (6 * vectorsOf h) (i * 6) (v .each h a b) s (omega arith) (omega arith));
+    }

@@ -6,7 +6,7 @@ use mathlib.Core.List.{List, [], _∷_}
 use lib.Dec.{leb}
 use lib.IntN.{ℤ, pos, _*ℤ_}
 use lib.ListN.{getD, replicate}
-use lib.Ieee.{Float, nan, inf, binary32, add, sub, mul, lt}
+use lib.Ieee.{Float, nan, inf, binary32, nanBits, add, sub, mul, lt}
 use Rattle.tables.specs.Tables.{book, vqBits}
 use Rattle.levels.specs.Component.{someTooLarge}
 use Rattle.levels.specs.Value.{f0, q15}

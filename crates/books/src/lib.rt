@@ -1,11 +1,14 @@
 // The vector quantiser over the seven books: vq_lookup and vq_search.
 ghost use mathlib.Core.Path.{_≡_};
-ghost use Prim.Native.Nat.{_+_, _*_, _≤_, _<_, _^_};
-ghost use mathlib.Core.List.{_++_};
-ghost use lib.ListN.{length, take, drop};
+ghost use mathlib.Core.Bool.{false, _||_};
+ghost use Prim.Native.Nat.{_+_, _*_, _%_, _≤_, _<_, _^_};
+ghost use lib.ListN.{length};
+ghost use lib.Ieee.{lt, inf, binary32, ofBits, nanBits};
 ghost use Rattle.bits.specs.Bits.{splice};
 ghost use Rattle.tables.specs.Tables.{book, vqBits};
-ghost use Rattle.books.specs.Books.{vectorsOf, sixAt, vqLookup, exactEntry, exactsAt, vqExact, termOf, sumTo, nearestIn, vqSearch};
+ghost use Rattle.fractions.specs.Fractions.{floats};
+ghost use Rattle.books.specs.Books.{vectorsOf, sixAt, vqLookup, exactEntry, exactsAt, vqExact, searchOf, vqSearch};
+ghost use Rattle.books.specs.Work.{nearerOf, placeOf, VectorsLoaded, FractionsLoaded, NoNans, searchBy, termBy, distanceBy, distanceIn};
 
 // What vq_search answers: an index of the book, or the number of the refusal.
 pub enum SearchResult {
@@ -13,60 +16,106 @@ pub enum SearchResult {
     Refused(u8),
 }
 
-fn copy(from: &[i16], to: &mut [i16])
-    requires { ⌜ length (now from) ≤ length (now to) ⌝ }
-    ensures { λ r. ⌜ now (to .exit) ≡ now (from .entry) ++ drop (length (now (from .entry))) (now (to .entry)) ⌝ }
+// The nearest vector so far and its distance.
+pub struct Near {
+    pub best: usize,
+    pub least: f32,
+}
+
+// ---- loading: a book is built anew each time it is named, so a caller with many bins loads all of them once
+
+fn put_vectors(from: &[i16], at: usize, room: &mut [i16])
+    requires { ⌜ at + length (now from) ≤ length (now room) ⌝ }
+    ensures { λ r. ⌜ now (room .exit) ≡ splice (now (room .entry)) at (now (from .entry)) ⌝ }
 {
     let mut i: usize = 0;
     while i < from.len() {
-        to[i] = from[i];
+        room[at + i] = from[i];
         i += 1;
     }
 }
 
-// The book of the hebap goes to the front of the room; answers how many vectors it has, 0 where there is none.
-// A book is built anew each time it is named, so a caller with many bins loads it once.
-pub fn load_book(hebap: u8, room: &mut [i16]) -> usize
-    requires { ⌜ length (now room) ≡ 3072 ⌝ }
+fn put_fractions(from: &[u32], at: usize, room: &mut [u32])
+    requires { ⌜ at + length (now from) ≤ length (now room) ⌝ }
+    ensures { λ r. ⌜ now (room .exit) ≡ splice (now (room .entry)) at (now (from .entry)) ⌝ }
+{
+    let mut i: usize = 0;
+    while i < from.len() {
+        room[at + i] = from[i];
+        i += 1;
+    }
+}
+
+// The seven books one behind another, vector by vector.
+pub fn load_vectors(room: &mut [i16])
+    requires { ⌜ length (now room) ≡ 5736 ⌝ }
+    ensures { λ r. ⌜ VectorsLoaded (now (room .exit)) ⌝ }
+{
+    let b1 = tables::vq_hebap1();
+    put_vectors(&b1, 0, &mut *room);
+    let b2 = tables::vq_hebap2();
+    put_vectors(&b2, 24, &mut *room);
+    let b3 = tables::vq_hebap3();
+    put_vectors(&b3, 72, &mut *room);
+    let b4 = tables::vq_hebap4();
+    put_vectors(&b4, 168, &mut *room);
+    let b5 = tables::vq_hebap5();
+    put_vectors(&b5, 360, &mut *room);
+    let b6 = tables::vq_hebap6();
+    put_vectors(&b6, 1128, &mut *room);
+    let b7 = tables::vq_hebap7();
+    put_vectors(&b7, 2664, &mut *room);
+}
+
+// The seven books one behind another, in component order.
+pub fn load_fractions(room: &mut [u32])
+    requires { ⌜ length (now room) ≡ 5736 ⌝ }
+    ensures { λ r. ⌜ FractionsLoaded (now (room .exit)) ⌝ }
+{
+    let b1 = fractions::vq_hebap1();
+    put_fractions(&b1, 0, &mut *room);
+    let b2 = fractions::vq_hebap2();
+    put_fractions(&b2, 24, &mut *room);
+    let b3 = fractions::vq_hebap3();
+    put_fractions(&b3, 72, &mut *room);
+    let b4 = fractions::vq_hebap4();
+    put_fractions(&b4, 168, &mut *room);
+    let b5 = fractions::vq_hebap5();
+    put_fractions(&b5, 360, &mut *room);
+    let b6 = fractions::vq_hebap6();
+    put_fractions(&b6, 1128, &mut *room);
+    let b7 = fractions::vq_hebap7();
+    put_fractions(&b7, 2664, &mut *room);
+}
+
+// How many vectors the book of the hebap has, 0 where there is none.
+fn vectors_in(hebap: u8) -> usize
     ensures { λ r. ⌜ r ≡ vectorsOf hebap ⌝ }
-    ensures { λ r. ⌜ now (room .exit) ≡ book hebap ++ drop (length (book hebap)) (now (room .entry)) ⌝ }
 {
     match hebap {
-        1 => {
-            let b = tables::vq_hebap1();
-            copy(&b, &mut *room);
-            4
-        }
-        2 => {
-            let b = tables::vq_hebap2();
-            copy(&b, &mut *room);
-            8
-        }
-        3 => {
-            let b = tables::vq_hebap3();
-            copy(&b, &mut *room);
-            16
-        }
-        4 => {
-            let b = tables::vq_hebap4();
-            copy(&b, &mut *room);
-            32
-        }
-        5 => {
-            let b = tables::vq_hebap5();
-            copy(&b, &mut *room);
-            128
-        }
-        6 => {
-            let b = tables::vq_hebap6();
-            copy(&b, &mut *room);
-            256
-        }
-        7 => {
-            let b = tables::vq_hebap7();
-            copy(&b, &mut *room);
-            512
-        }
+        1 => 4,
+        2 => 8,
+        3 => 16,
+        4 => 32,
+        5 => 128,
+        6 => 256,
+        7 => 512,
+        _ => 0,
+    }
+}
+
+// Where the book of the hebap starts among the seven.
+fn place(hebap: u8) -> usize
+    requires { ⌜ (1 ≤ hebap) × (hebap ≤ 7) ⌝ }
+    ensures { λ r. ⌜ r ≡ placeOf hebap ⌝ }
+{
+    match hebap {
+        2 => 24,
+        3 => 72,
+        4 => 168,
+        5 => 360,
+        6 => 1128,
+        7 => 2664,
         _ => 0,
     }
 }
@@ -88,23 +137,41 @@ fn six(book: &[i16], a: usize) -> [f32; 6]
     ]
 }
 
-fn lookup_with(hebap: u8, index: usize, room: &mut [i16]) -> [f32; 6]
-    requires { ⌜ length (now room) ≡ 3072 ⌝ }
-    ensures { λ r. ⌜ r ≡ vqLookup hebap index ⌝ }
-{
-    let n = load_book(hebap, &mut *room);
-    if n == 0 {
-        return [0.0f32; 6];
-    }
-    six(&*room, index % n * 6)
-}
-
 // The vector at an index of the book of the hebap, counted round; zeros where it has no book.
 pub fn vq_lookup(hebap: u8, index: usize) -> [f32; 6]
     ensures { λ r. ⌜ r ≡ vqLookup hebap index ⌝ }
 {
-    let mut room = [0i16; 3072];
-    lookup_with(hebap, index, &mut room)
+    match hebap {
+        1 => {
+            let b = tables::vq_hebap1();
+            six(&b, index % 4 * 6)
+        }
+        2 => {
+            let b = tables::vq_hebap2();
+            six(&b, index % 8 * 6)
+        }
+        3 => {
+            let b = tables::vq_hebap3();
+            six(&b, index % 16 * 6)
+        }
+        4 => {
+            let b = tables::vq_hebap4();
+            six(&b, index % 32 * 6)
+        }
+        5 => {
+            let b = tables::vq_hebap5();
+            six(&b, index % 128 * 6)
+        }
+        6 => {
+            let b = tables::vq_hebap6();
+            six(&b, index % 256 * 6)
+        }
+        7 => {
+            let b = tables::vq_hebap7();
+            six(&b, index % 512 * 6)
+        }
+        _ => [0.0f32; 6],
+    }
 }
 
 fn exact_entry(e: i16) -> i32
@@ -129,89 +196,181 @@ fn put_six(book: &[i16], a: usize, at: usize, values: &mut [f32], exact: &mut [i
     }
 }
 
-// The vector at an index of the book of the hebap, counted round, goes to the places from `at` on, as f32 and as exact values.
+// The vector at an index of the book of the hebap goes to the places from `at` on, as f32 and as exact values.
 pub fn put_vector(
+    books: &[i16],
     hebap: u8,
     index: usize,
-    room: &mut [i16],
     at: usize,
     values: &mut [f32],
     exact: &mut [i32],
 )
-    requires { ⌜ (1 ≤ hebap) × (hebap ≤ 7) ⌝ }
-    requires { ⌜ length (now room) ≡ 3072 ⌝ }
+    requires { ⌜ (1 ≤ hebap) × (hebap ≤ 7) × (index < 2 ^ vqBits hebap) ⌝ }
+    requires { ⌜ VectorsLoaded (now books) ⌝ }
     requires { ⌜ (at + 6 ≤ length (now values)) × (at + 6 ≤ length (now exact)) ⌝ }
     ensures { λ r. ⌜ now (values .exit) ≡ splice (now (values .entry)) at (vqLookup hebap index) ⌝ }
     ensures { λ r. ⌜ now (exact .exit) ≡ splice (now (exact .entry)) at (vqExact hebap index) ⌝ }
-    ensures { λ r. ⌜ now (room .exit) ≡ book hebap ++ drop (length (book hebap)) (now (room .entry)) ⌝ }
 {
-    let n = load_book(hebap, &mut *room);
-    if n != 0 {
-        put_six(&*room, index % n * 6, at, &mut *values, &mut *exact);
-    }
+    put_six(books, place(hebap) + index * 6, at, values, exact);
 }
 
 // ---- searching
 
-// d and the square of what x and the entry e differ by.
-fn term(d: f32, x: f32, e: i16) -> f32
-    ensures { λ r. ⌜ r ≡ termOf d x e ⌝ }
+// d and the square of what x and the fraction differ by.
+fn term(d: f32, x: f32, fraction: u32) -> f32
+    requires { ⌜ nanBits binary32 fraction ≡ false ⌝ }
+    ensures { λ r. ⌜ r ≡ termBy d x (ofBits binary32 fraction) ⌝ }
 {
-    let diff = x - levels::q15(e);
+    let diff = x - f32::from_bits(fraction);
     d + diff * diff
 }
 
-// The distance of x from the vector that starts at the place a of the book.
-fn distance(x: &[f32], book: &[i16], a: usize) -> f32
-    requires { ⌜ (a + 6 ≤ length (now book)) × (a < 65536) × (length (now x) ≡ 6) ⌝ }
-    ensures { λ r. ⌜ r ≡ sumTo 6 (now (x .entry)) (now (book .entry)) a ⌝ }
+// The distance of six numbers from vector k of the n vectors of a book in component order.
+fn distance(
+    t: &[u32],
+    n: usize,
+    k: usize,
+    x0: f32,
+    x1: f32,
+    x2: f32,
+    x3: f32,
+    x4: f32,
+    x5: f32,
+) -> f32
+    requires { ⌜ (n * 6 ≤ length (now t)) × (n < 1024) × (k < n) ⌝ }
+    requires { ⌜ NoNans (now t) ⌝ }
+    ensures { λ r. ⌜ r ≡ distanceBy (floats (now (t .entry))) n k x0 x1 x2 x3 x4 x5 ⌝ }
 {
-    let mut d = 0.0f32;
-    let mut j: usize = 0;
-    while j < 6 {
-        d = term(d, x[j], book[a + j]);
-        j += 1;
-    }
-    d
+    let a = term(0.0f32, x0, t[k]);
+    let b = term(a, x1, t[k + n]);
+    let c = term(b, x2, t[k + 2 * n]);
+    let d = term(c, x3, t[k + 3 * n]);
+    let e = term(d, x4, t[k + 4 * n]);
+    term(e, x5, t[k + 5 * n])
 }
 
-// The first of the n vectors of the book that is nearest to x.
-pub fn nearest(book: &[i16], n: usize, x: &[f32]) -> usize
-    requires { ⌜ (n * 6 ≤ length (now book)) × (n < 1024) × (length (now x) ≡ 6) ⌝ }
-    ensures { λ r. ⌜ r ≡ nearestIn (now (book .entry)) n (now (x .entry)) ⌝ }
+// Whether one of four is less.
+fn any_less(a: f32, b: f32, c: f32, d: f32, least: f32) -> bool
+    ensures { λ r. ⌜ r ≡ (lt a least || (lt b least || (lt c least || lt d least))) ⌝ }
 {
-    let mut best: usize = 0;
-    let mut least = f32::from_bits(0x7f80_0000);
+    if a < least {
+        return true;
+    }
+    if b < least {
+        return true;
+    }
+    if c < least {
+        return true;
+    }
+    d < least
+}
+
+// Vector k takes the place of the nearest so far where its distance d is less.
+fn nearer(s: Near, d: f32, k: usize) -> Near
+    ensures { λ r. ⌜ r ≡ nearerOf s d k ⌝ }
+{
+    if d < s.least {
+        Near { best: k, least: d }
+    } else {
+        s
+    }
+}
+
+// The first of the n vectors of a book in component order that is nearest to x. Four at a time, which the machine does together; only
+// where one of them is nearer than all before are they looked at one by one.
+fn nearest(t: &[u32], n: usize, x: &[f32]) -> usize
+    requires { ⌜ (n * 6 ≤ length (now t)) × (n < 1024) × (n % 4 ≡ 0) × (length (now x) ≡ 6) ⌝ }
+    requires { ⌜ NoNans (now t) ⌝ }
+    ensures { λ r. ⌜ r ≡ searchBy (distanceIn (now (x .entry)) (floats (now (t .entry))) n) n 0 0 (inf false) ⌝ }
+{
+    let x0 = x[0];
+    let x1 = x[1];
+    let x2 = x[2];
+    let x3 = x[3];
+    let x4 = x[4];
+    let x5 = x[5];
+    let mut s = Near {
+        best: 0,
+        least: f32::from_bits(0x7f80_0000),
+    };
     let mut k: usize = 0;
     while k < n {
-        let d = distance(x, book, k * 6);
-        if d < least {
-            least = d;
-            best = k;
+        let a = distance(t, n, k, x0, x1, x2, x3, x4, x5);
+        let b = distance(t, n, k + 1, x0, x1, x2, x3, x4, x5);
+        let c = distance(t, n, k + 2, x0, x1, x2, x3, x4, x5);
+        let d = distance(t, n, k + 3, x0, x1, x2, x3, x4, x5);
+        if any_less(a, b, c, d, s.least) {
+            s = nearer(
+                nearer(nearer(nearer(s, a, k), b, k + 1), c, k + 2),
+                d,
+                k + 3,
+            );
         }
-        k += 1;
+        k += 4;
     }
-    best
+    s.best
 }
 
-fn search_with(hebap: u8, x: &[f32], room: &mut [i16]) -> SearchResult
-    requires { ⌜ (length (now x) ≡ 6) × (length (now room) ≡ 3072) ⌝ }
-    ensures { λ r. ⌜ r ≡ vqSearch hebap (now (x .entry)) ⌝ }
+// The index that the search picks, in books that are loaded.
+pub fn search_in(books: &[u32], hebap: u8, x: &[f32]) -> usize
+    requires { ⌜ (1 ≤ hebap) × (hebap ≤ 7) ⌝ }
+    requires { ⌜ FractionsLoaded (now books) ⌝ }
+    requires { ⌜ length (now x) ≡ 6 ⌝ }
+    ensures { λ r. ⌜ r ≡ searchOf hebap (now (x .entry)) ⌝ }
 {
-    let n = load_book(hebap, &mut *room);
-    if n == 0 {
-        return SearchResult::Index(0);
+    let n = vectors_in(hebap);
+    let a = place(hebap);
+    let b = a + 6 * n;
+    nearest(&books[a..b], n, x)
+}
+
+// The same with the one book that is needed.
+fn search(hebap: u8, x: &[f32]) -> usize
+    requires { ⌜ (1 ≤ hebap) × (hebap ≤ 7) ⌝ }
+    requires { ⌜ length (now x) ≡ 6 ⌝ }
+    ensures { λ r. ⌜ r ≡ searchOf hebap (now (x .entry)) ⌝ }
+{
+    match hebap {
+        1 => {
+            let t = fractions::vq_hebap1();
+            nearest(&t, 4, x)
+        }
+        2 => {
+            let t = fractions::vq_hebap2();
+            nearest(&t, 8, x)
+        }
+        3 => {
+            let t = fractions::vq_hebap3();
+            nearest(&t, 16, x)
+        }
+        4 => {
+            let t = fractions::vq_hebap4();
+            nearest(&t, 32, x)
+        }
+        5 => {
+            let t = fractions::vq_hebap5();
+            nearest(&t, 128, x)
+        }
+        6 => {
+            let t = fractions::vq_hebap6();
+            nearest(&t, 256, x)
+        }
+        _ => {
+            let t = fractions::vq_hebap7();
+            nearest(&t, 512, x)
+        }
     }
-    if levels::any_too_large(x) {
-        return SearchResult::Refused(5);
-    }
-    SearchResult::Index(nearest(&*room, n, x))
 }
 
 // The first index of least distance from x in the book of the hebap, 0 where it has no book. Refuses with 5 where it has one.
 pub fn vq_search(hebap: u8, x: &[f32; 6]) -> SearchResult
     ensures { λ r. ⌜ r ≡ vqSearch hebap (now (x .entry)) ⌝ }
 {
-    let mut room = [0i16; 3072];
-    search_with(hebap, x, &mut room)
+    if vectors_in(hebap) == 0 {
+        return SearchResult::Index(0);
+    }
+    if levels::any_too_large(x) {
+        return SearchResult::Refused(5);
+    }
+    SearchResult::Index(search(hebap, x))
 }

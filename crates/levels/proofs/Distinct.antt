@@ -25,7 +25,7 @@ abbrev Positive : Bool → ℕ → Type 0
 Positive false x = Unit {0}
 Positive true x = 0 < x
 
-neg-times : (x y : ℕ) → negℤ (pos x) *ℤ pos y ≡ negℤ (pos (x * y))
+pub neg-times : (x y : ℕ) → negℤ (pos x) *ℤ pos y ≡ negℤ (pos (x * y))
 neg-times zero y = rw (zero-mul y)
 neg-times (suc x) y = refl
 

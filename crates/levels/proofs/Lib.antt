@@ -5,3 +5,5 @@ pub mod Rows
 pub mod Sizes
 pub mod CodeLaws
 pub mod Range
+pub mod Remapping
+pub mod Common

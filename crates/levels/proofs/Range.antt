@@ -1,6 +1,6 @@
 -- The test of a component's size. Assumes nothing.
 use mathlib.Core.Path.{_≡_, refl, sym, ap, _∙_}
-use mathlib.Core.Bool.{Bool, true, false, not, _&&_, _||_, true≢false}
+use mathlib.Core.Bool.{Bool, true, false, cond, not, _&&_, _||_, true≢false}
 use mathlib.Core.List.{List, _∷_}
 use mathlib.Core.Logic.{inl, inr}
 use Prim.Native.Nat.{ℕ, _+_, _-_, _*_, _≤_, _<_}
@@ -45,10 +45,6 @@ and-left : (a b : Bool) → b ≡ true → a && b ≡ a
 and-left true b h = h
 and-left false b h = refl
 
-not-two : (b : Bool) → not (not b) ≡ b
-not-two true = refl
-not-two false = refl
-
 above : (m : ℕ) (e : ℤ) → 0 < m * up e * 1 + 1024 * down e
 above m e = let d : 0 < down e = down-pos e in omega arith
 
@@ -74,15 +70,24 @@ range-out (fin false m e) h = absurd (true≢false (sym (or-left _ _ (lt-ltb 0 (
 range-out (fin true m e) h = sym (sym (lower m e) ∙ h)
 
 -- ---- a loop over components
-module _ (x : List Float) (j : ℕ) (h : j < length x) where
-  here : someTooLarge (drop j x) ≡ tooLarge (getD x j nan) || someTooLarge (drop (j + 1) x)
-  here = let d : drop j x ≡ getD x j nan ∷ drop (j + 1) x = rw add-one (drop-cons x j nan h) in ap someTooLarge d
+or-false : (a : Bool) → a || false ≡ a
+or-false true = refl
+or-false false = refl
 
-  pub some-turn : true ≡ not (tooLarge (getD x j nan)) → someTooLarge x ≡ someTooLarge (drop j x) → someTooLarge x ≡ someTooLarge (drop (j + 1) x)
-  some-turn e i = i ∙ here ∙ ap (λ (t : Bool). t || someTooLarge (drop (j + 1) x)) (sym (not-two (tooLarge (getD x j nan))) ∙ ap not (sym e))
+-- one component more, not accepted if t
+or-more : (a t b : Bool) → a || (t || b) ≡ cond (not t) a true || b
+or-more true true b = refl
+or-more true false b = refl
+or-more false true b = refl
+or-more false false b = refl
 
-  pub some-found : false ≡ not (tooLarge (getD x j nan)) → someTooLarge x ≡ someTooLarge (drop j x) → true ≡ someTooLarge x
-  some-found e i = sym (i ∙ here ∙ ap (λ (t : Bool). t || someTooLarge (drop (j + 1) x)) (sym (not-two (tooLarge (getD x j nan))) ∙ ap not (sym e)))
+pub some-turn : (x : List Float) (j : ℕ) → j < length x → (found r b : Bool) → r ≡ not (tooLarge (getD x j nan)) → b ≡ cond r found true
+    → someTooLarge x ≡ found || someTooLarge (drop j x) → someTooLarge x ≡ b || someTooLarge (drop (j + 1) x)
+some-turn x j h found r b er eb i =
+    let d : drop j x ≡ getD x j nan ∷ drop (j + 1) x = rw add-one (drop-cons x j nan h) in
+    let rest = someTooLarge (drop (j + 1) x) in
+    i ∙ ap (λ (l : List Float). found || someTooLarge l) d ∙ or-more found (tooLarge (getD x j nan)) rest
+    ∙ sym (ap (λ (t : Bool). t || rest) (eb ∙ ap (λ (t : Bool). cond t found true) er))
 
-pub some-end : (x : List Float) (j : ℕ) → length x ≤ j → someTooLarge x ≡ someTooLarge (drop j x) → false ≡ someTooLarge x
-some-end x j h i = sym (i ∙ ap someTooLarge (drop-of-length-le x h))
+pub some-end : (x : List Float) (j : ℕ) → length x ≤ j → (found : Bool) → someTooLarge x ≡ found || someTooLarge (drop j x) → found ≡ someTooLarge x
+some-end x j h found i = sym (i ∙ ap (λ (l : List Float). found || someTooLarge l) (drop-of-length-le x h) ∙ or-false found)

@@ -78,11 +78,11 @@ large-width m g l u = width-by (eqb g 2) (m - 1) m (omega arith) (omega arith)
 
 -- what is asked of a code u in w bits, for a kind of code whose width is f
 pub asked : (f : ℕ → ℕ → ℕ) → ((m g : ℕ) → 3 ≤ m → m ≤ 16 → (1 ≤ f m g) × (f m g ≤ 16))
-    → (h g m w u : ℕ) → (8 ≤ h) × (h ≤ 19) → m ≡ mantBits h → w ≡ f m g → u < 2 ^ f (mantBits h) g → (1 ≤ w) × (w ≤ 16) × (u < 2 ^ w)
-asked f wide h g m w u r e i l =
+    → (h g w u : ℕ) → (8 ≤ h) × (h ≤ 19) → w ≡ f (mantBits h) g → u < 2 ^ f (mantBits h) g → (1 ≤ w) × (w ≤ 16) × (u < 2 ^ w)
+asked f wide h g w u r e l =
     let b = mant-bits h (r .0) (r .1) in
     let a = wide (mantBits h) g (b .0) (b .1) in
-    rw (i, e) (a .0, a .1, l)
+    rw e (a .0, a .1, l)
 
 -- what is accepted of a small code holds of the one that a match has taken out
 pub small-fits : (h g s : ℕ) (code : Code) → Accepted h g code → code ≡ Code.Small s → s < 2 ^ smallBits (mantBits h) g

@@ -1,13 +1,13 @@
 -- The steps to an exact value stay within an i32: one law of the numbers, and one test of the twelve rows. Assumes nothing.
 use Prim.Native.Nat.{ℕ, zero, suc, _+_, _-_, _*_, _^_, _≤_, _<_}
-use mathlib.Core.Path.{_≡_, refl}
+use mathlib.Core.Path.{_≡_, refl, sym, _∙_}
 use mathlib.Core.Bool.{Bool, true, false, cond, _&&_}
-use native.Mathlib.Nat.{mul-le-mul-right, mul-le-mul-left, mul-one, mul-right-comm, lt-of-lt-of-le}
+use native.Mathlib.Nat.{mul-le-mul-right, mul-le-mul-left, mul-assoc, mul-right-comm, lt-of-lt-of-le}
 use native.Mathlib.Omega.{arith}
 use borrow.Author.Tests.{le-ltb}
 use lib.Dec.{T, ltb, eqb, ltb→lt}
 use lib.IntN.{ℤ, pos, negsuc, negℤ, natAbs, subℕ, _+ℤ_, _*ℤ_}
-use lib.Pow.{pow-add, pow-pos, pow-mono}
+use lib.Pow.{pow-add, pow-mono}
 use lib.Signed.{mag, ltZ, natAbs-le}
 use mir.Syntax.{w16, w32}
 use mir.Val.{toZ, ofZ, SFits}
@@ -66,25 +66,21 @@ widened-fits z h = rw (back w16 z h refl) (record { sfits = omega arith })
 pub widened : (z : ℤ) {y : ℤ} → mag z < 2 ^ 15 → z ≡ y → toZ w32 (ofZ w32 (toZ w16 (ofZ w16 z))) ≡ y
 widened z h e = let k = back w16 z h e in back w32 (toZ w16 (ofZ w16 z)) (widened-fits z h .sfits) k
 
--- ---- the steps of l × (32768 + a) × 2 ^ e + b × 2 ^ 15
+-- ---- the steps of l × ((32768 + a) × 2 ^ e) + b × 2 ^ 15
 pub record Steps (l z : ℤ) (p : ℕ) (b : ℤ) : Type 0 where
-  pub first : natAbs l * natAbs z < 2 ^ 31
-  pub second : natAbs (l *ℤ z) * p < 2 ^ 31
-  pub third : natAbs b * 2 ^ 15 < 2 ^ 31
-  pub whole : mag (l *ℤ z *ℤ pos p +ℤ b *ℤ pos (2 ^ 15)) < 2 ^ 31
+  pub product : natAbs l * natAbs (z *ℤ pos p) < 2 ^ 31
+  pub whole : mag (l *ℤ (z *ℤ pos p) +ℤ b *ℤ pos (2 ^ 15)) < 2 ^ 31
 
-steps : (l z : ℤ) (p : ℕ) (b : ℤ) → 0 < p → natAbs l * p ≤ 2 ^ 15 → natAbs z + natAbs b < 2 ^ 16 → Steps l z p b
-steps l z p b o h k =
-    let less : natAbs l * 1 ≤ natAbs l * p = mul-le-mul-left (natAbs l) o in
-    let one = mul-one (natAbs l) in
-    let f : natAbs l * natAbs z ≤ 2 ^ 15 * natAbs z = mul-le-mul-right (natAbs z) (omega arith) in
+steps : (l z : ℤ) (p : ℕ) (b : ℤ) → natAbs l * p ≤ 2 ^ 15 → natAbs z + natAbs b < 2 ^ 16 → Steps l z p b
+steps l z p b h k =
     let s : natAbs l * p * natAbs z ≤ 2 ^ 15 * natAbs z = mul-le-mul-right (natAbs z) h in
-    let m : natAbs (l *ℤ z) * p ≡ natAbs l * p * natAbs z = rw (abs-mul l z) (mul-right-comm (natAbs l) (natAbs z) p) in
-    let x = abs-mul (l *ℤ z) (pos p) in
+    let m : natAbs l * natAbs (z *ℤ pos p) ≡ natAbs l * p * natAbs z =
+    rw (abs-mul z (pos p)) (sym (mul-assoc (natAbs l) (natAbs z) p) ∙ mul-right-comm (natAbs l) (natAbs z) p) in
+    let x = abs-mul l (z *ℤ pos p) in
     let y = abs-mul b (pos (2 ^ 15)) in
-    let a = abs-add (l *ℤ z *ℤ pos p) (b *ℤ pos (2 ^ 15)) in
-    let g = mag-abs (l *ℤ z *ℤ pos p +ℤ b *ℤ pos (2 ^ 15)) in
-    record { first = omega arith; second = omega arith; third = omega arith; whole = omega arith }
+    let a = abs-add (l *ℤ (z *ℤ pos p)) (b *ℤ pos (2 ^ 15)) in
+    let g = mag-abs (l *ℤ (z *ℤ pos p) +ℤ b *ℤ pos (2 ^ 15)) in
+    record { product = omega arith; whole = omega arith }
 
 -- ---- the rows
 abbrev within : ℕ → ℕ → Bool → Bool
@@ -113,37 +109,47 @@ row-size h g l u below = ltb→lt (natAbs (pos 32768 +ℤ slope h g) + natAbs (o
     go true = tests .0
     go false = tests .1
 
--- ---- the codes
-pub small-size : (h : ℕ) → 8 ≤ h → h ≤ 19 → (s : ℤ) → mag s < 2 ^ (mantBits h - 1) → natAbs s * 2 ^ (31 - mantBits h) < 2 ^ 31
-small-size h l u s b =
-    let m = mant-bits h l u in
-    let t : natAbs s * 2 ^ (31 - mantBits h) ≤ 2 ^ 30 = times-power s (mantBits h - 1) (31 - mantBits h) 30 b (omega arith) in
-    omega arith
+-- ---- what the codes have in common
+module _ (h g : ℕ) (low : 8 ≤ h) (high : h ≤ 19) where
+  pub unit-size : natAbs (pos 32768 +ℤ slope h g) * 2 ^ (cond (eqb g 2) 17 16 - mantBits h) < 2 ^ 31
+  unit-size =
+      let r = row-size h g low high false in
+      let z = natAbs (pos 32768 +ℤ slope h g) in
+      let p : 2 ^ (cond (eqb g 2) 17 16 - mantBits h) ≤ 2 ^ 14 = pow-mono (go (eqb g 2)) in
+      let m : z * 2 ^ (cond (eqb g 2) 17 16 - mantBits h) ≤ z * 2 ^ 14 = mul-le-mul-left z p in
+      omega arith
+    where
+      go : (t : Bool) → cond t 17 16 - mantBits h ≤ 14
+      go true = let m = mant-bits h low high in omega arith
+      go false = let m = mant-bits h low high in omega arith
 
-pub large-steps : (h g : ℕ) → 8 ≤ h → h ≤ 19 → (l : ℤ) → mag l < 2 ^ (largeBits (mantBits h) g - 1)
-    → Steps l (pos 32768 +ℤ slope h g) (2 ^ (cond (eqb g 2) 17 16 - mantBits h)) (offsetBySign h g (isNegative l))
-large-steps h g lo hi l b =
-    steps l (pos 32768 +ℤ slope h g) (2 ^ (cond (eqb g 2) 17 16 - mantBits h)) (offsetBySign h g (isNegative l)) (pow-pos (cond (eqb g 2) 17 16 - mantBits h))
-    (times-power l (largeBits (mantBits h) g - 1) (cond (eqb g 2) 17 16 - mantBits h) 15 b (go (eqb g 2)))
-    (row-size h g lo hi (isNegative l))
-  where
-    go : (t : Bool) → cond t (mantBits h - 1) (mantBits h) - 1 + (cond t 17 16 - mantBits h) ≡ 15
-    go true = let m = mant-bits h lo hi in omega arith
-    go false = let m = mant-bits h lo hi in omega arith
+  pub offset-size : (below : Bool) → natAbs (offsetBySign h g below) * 2 ^ 15 < 2 ^ 31
+  offset-size below = let r = row-size h g low high below in omega arith
 
--- ---- the number that a code's bits show, as it is read back
-shown-size : (w u : ℕ) (k : ℤ) → 1 ≤ w → u < 2 ^ w → mag k < 2 ^ 31 → k ≡ signed w u → mag (toZ w32 (ofZ w32 k)) < 2 ^ (w - 1)
-shown-size w u k l h f e = rw (back w32 k f e) (signed-less w u l h)
-
-module _ (h g : ℕ) (low : 8 ≤ h) (high : h ≤ 19) (u : ℕ) (k : ℤ) (f : mag k < 2 ^ 31) where
-  pub small-shown : u < 2 ^ smallBits (mantBits h) g → k ≡ signed (smallBits (mantBits h) g) u → mag (toZ w32 (ofZ w32 k)) < 2 ^ (mantBits h - 1)
-  small-shown l e =
+  -- ---- the codes
+  pub small-size : (u : ℕ) → u < 2 ^ smallBits (mantBits h) g → natAbs (signed (smallBits (mantBits h) g) u) * 2 ^ (31 - mantBits h) < 2 ^ 31
+  small-size u f =
       let m = mant-bits h low high in
-      lt-of-lt-of-le (shown-size (smallBits (mantBits h) g) u k (small-width (mantBits h) g (m .0) (m .1) .0) l f e) (pow-mono (go (eqb g 2)))
+      let b : mag (signed (smallBits (mantBits h) g) u) < 2 ^ (mantBits h - 1) =
+      lt-of-lt-of-le (signed-less (smallBits (mantBits h) g) u (small-width (mantBits h) g (m .0) (m .1) .0) f) (pow-mono (go (eqb g 2))) in
+      let t : natAbs (signed (smallBits (mantBits h) g) u) * 2 ^ (31 - mantBits h) ≤ 2 ^ 30 =
+      times-power (signed (smallBits (mantBits h) g) u) (mantBits h - 1) (31 - mantBits h) 30 b (omega arith) in
+      omega arith
     where
       go : (t : Bool) → cond t (mantBits h - 1) (mantBits h - 2) - 1 ≤ mantBits h - 1
       go true = omega arith
       go false = omega arith
 
-  pub large-shown : u < 2 ^ largeBits (mantBits h) g → k ≡ signed (largeBits (mantBits h) g) u → mag (toZ w32 (ofZ w32 k)) < 2 ^ (largeBits (mantBits h) g - 1)
-  large-shown l e = let m = mant-bits h low high in shown-size (largeBits (mantBits h) g) u k (large-width (mantBits h) g (m .0) (m .1) .0) l f e
+  pub large-steps : (u : ℕ) → u < 2 ^ largeBits (mantBits h) g
+      → Steps (signed (largeBits (mantBits h) g) u) (pos 32768 +ℤ slope h g) (2 ^ (cond (eqb g 2) 17 16 - mantBits h)) (offsetBySign h g (isNegative (signed (largeBits (mantBits h) g) u)))
+  large-steps u f =
+      let m = mant-bits h low high in
+      let l = signed (largeBits (mantBits h) g) u in
+      steps l (pos 32768 +ℤ slope h g) (2 ^ (cond (eqb g 2) 17 16 - mantBits h)) (offsetBySign h g (isNegative l))
+      (times-power l (largeBits (mantBits h) g - 1) (cond (eqb g 2) 17 16 - mantBits h) 15
+      (signed-less (largeBits (mantBits h) g) u (large-width (mantBits h) g (m .0) (m .1) .0) f) (go (eqb g 2)))
+      (row-size h g low high (isNegative l))
+    where
+      go : (t : Bool) → cond t (mantBits h - 1) (mantBits h) - 1 + (cond t 17 16 - mantBits h) ≡ 15
+      go true = let m = mant-bits h low high in omega arith
+      go false = let m = mant-bits h low high in omega arith

@@ -8,8 +8,9 @@ ghost use lib.Signed.{mag};
 ghost use Rattle.tables.specs.Tables.{mantBits};
 ghost use Rattle.levels.specs.Component.{tooLarge, someTooLarge};
 ghost use Rattle.levels.specs.Codes.{signed, smallBits, largeBits, codeBits, Accepted};
-ghost use Rattle.levels.specs.Exact.{slope, offsetBySign, exactSmall, exactLarge, exactOf};
-ghost use Rattle.levels.specs.Value.{q15 as q15Of, power, offsetAt, gaqRemap, scaled, divided, smallValue, largeValue, levelOf, valueIn};
+ghost use Rattle.levels.specs.Exact.{slope, offsetBySign, exactOf};
+ghost use Rattle.levels.specs.Value.{q15 as q15Of, power, gaqRemap, levelOf, divided, valueIn};
+ghost use Rattle.levels.specs.Work.{remapOf, remapBy, scaleOf};
 
 // A code by its bits: a small one, or a large one (behind the tag at Gk 2 and 4; at Gk 1 every code is large).
 pub enum Code {
@@ -89,19 +90,17 @@ pub fn in_range(x: f32) -> bool
     false
 }
 
-// Whether some component is not accepted.
+// Whether some component is not accepted. All are looked at, which the machine does for several together.
 pub fn any_too_large(x: &[f32]) -> bool
     ensures { λ r. ⌜ r ≡ someTooLarge (now (x .entry)) ⌝ }
 {
+    let mut found = false;
     let mut j: usize = 0;
     while j < x.len() {
-        if in_range(x[j]) {
-            j += 1;
-        } else {
-            return true;
-        }
+        found = if in_range(x[j]) { found } else { true };
+        j += 1;
     }
-    false
+    found
 }
 
 // ---- f32 values
@@ -111,14 +110,6 @@ pub fn scale(n: u32) -> f32
     ensures { λ r. ⌜ r ≡ power n ⌝ }
 {
     two_to(n) as f32
-}
-
-fn scaled_code(k: i32, n: u32) -> f32
-    requires { ⌜ mag k < 2 ^ 24 ⌝ }
-    requires { ⌜ n ≤ 16 ⌝ }
-    ensures { λ r. ⌜ r ≡ scaled n k ⌝ }
-{
-    k as f32 * (1.0 / scale(n))
 }
 
 pub fn divided_code(k: i32, n: u32) -> f32
@@ -166,61 +157,36 @@ fn offset_by_sign(hebap: u8, gk: u8, below: bool) -> i16
     tables::gaq_remap_at(hebap, 5)
 }
 
-fn offset_at(hebap: u8, gk: u8, x: f32) -> i16
-    ensures { λ r. ⌜ r ≡ offsetAt hebap gk x ⌝ }
+// a, and b for numbers that are not below 0 and for those below, of a hebap and a gain, as fractions.
+pub struct Remap {
+    pub a: f32,
+    pub up: f32,
+    pub below: f32,
+}
+
+// Worked out once where many numbers are remapped: each number of the table is a walk through it.
+pub fn remap_of(hebap: u8, gk: u8) -> Remap
+    ensures { λ r. ⌜ r ≡ remapOf hebap gk ⌝ }
 {
-    if x >= 0.0 {
-        return offset_by_sign(hebap, gk, false);
+    Remap {
+        a: q15(slope_at(hebap, gk)),
+        up: q15(offset_by_sign(hebap, gk, false)),
+        below: q15(offset_by_sign(hebap, gk, true)),
     }
-    offset_by_sign(hebap, gk, true)
+}
+
+pub fn remap_by(r: Remap, x: f32) -> f32
+    ensures { λ y. ⌜ y ≡ remapBy r x ⌝ }
+{
+    let b = if x >= 0.0 { r.up } else { r.below };
+    x + r.a * x + b
 }
 
 // The remap of Table E3.6: y = x + a x + b, each operation rounded once. A gain other than 1 and 2 has the column of Gk 4, as in the Rust.
 pub fn gaq_remap(hebap: u8, gk: u8, x: f32) -> f32
     ensures { λ r. ⌜ r ≡ gaqRemap hebap gk x ⌝ }
 {
-    let a = q15(slope_at(hebap, gk));
-    let b = q15(offset_at(hebap, gk, x));
-    x + a * x + b
-}
-
-fn small_value(hebap: u8, s: i32) -> f32
-    requires { ⌜ (8 ≤ hebap) × (hebap ≤ 19) ⌝ }
-    requires { ⌜ mag s < 2 ^ 24 ⌝ }
-    ensures { λ r. ⌜ r ≡ smallValue hebap s ⌝ }
-{
-    scaled_code(s, mant(hebap) - 1)
-}
-
-fn large_value(hebap: u8, gk: u8, l: i32) -> f32
-    requires { ⌜ (8 ≤ hebap) × (hebap ≤ 19) ⌝ }
-    requires { ⌜ mag l < 2 ^ 24 ⌝ }
-    ensures { λ r. ⌜ r ≡ largeValue hebap gk l ⌝ }
-{
-    let m = mant(hebap);
-    if gk == 2 {
-        return gaq_remap(hebap, gk, divided_code(l, m - 2));
-    }
-    gaq_remap(hebap, gk, scaled_code(l, m - 1))
-}
-
-// The kind and the f32 value of a code at a hebap and a gain.
-pub fn level_of(hebap: u8, gk: u8, code: Code) -> Level
-    requires { ⌜ (8 ≤ hebap) × (hebap ≤ 19) ⌝ }
-    requires { ⌜ Accepted hebap gk code ⌝ }
-    ensures { λ r. ⌜ r ≡ levelOf hebap gk code ⌝ }
-{
-    let m = mant(hebap);
-    match code {
-        Code::Small(s) => {
-            let k = signed_code(s, small_bits(m, gk));
-            Level::Small(small_value(hebap, k))
-        }
-        Code::Large(l) => {
-            let k = signed_code(l, large_bits(m, gk));
-            Level::Large(large_value(hebap, gk, k))
-        }
-    }
+    remap_by(remap_of(hebap, gk), x)
 }
 
 // The f32 that a level carries.
@@ -249,14 +215,6 @@ fn power_of_two(n: u32) -> i32
     two_to(n) as i32
 }
 
-fn exact_small(hebap: u8, s: i32) -> i32
-    requires { ⌜ (8 ≤ hebap) × (hebap ≤ 19) ⌝ }
-    requires { ⌜ mag s < 2 ^ (mantBits hebap - 1) ⌝ }
-    ensures { λ r. ⌜ r ≡ exactSmall hebap s ⌝ }
-{
-    times(s, power_of_two(31 - mant(hebap)))
-}
-
 // 1 + a, in units of 2^-15
 fn one_plus_slope(hebap: u8, gk: u8) -> i32
     requires { ⌜ (8 ≤ hebap) × (hebap ≤ 19) ⌝ }
@@ -277,31 +235,69 @@ fn power_at(hebap: u8, gk: u8) -> i32
     power_of_two(16 - m)
 }
 
-fn exact_large(hebap: u8, gk: u8, l: i32) -> i32
-    requires { ⌜ (8 ≤ hebap) × (hebap ≤ 19) ⌝ }
-    requires { ⌜ mag l < 2 ^ (largeBits (mantBits hebap) gk - 1) ⌝ }
-    ensures { λ r. ⌜ r ≡ exactLarge hebap gk l ⌝ }
-{
-    let x = times(times(l, one_plus_slope(hebap, gk)), power_at(hebap, gk));
-    let b = offset_by_sign(hebap, gk, l < 0) as i32;
-    x + times(b, 32768)
+// ---- many codes of one hebap and gain
+
+// What they have in common: the remap; the bits of small and of large codes; the fractions 1 / 2^(m-1) and, for large codes, 1 / 2^(bits - 1);
+// the exact value of a step of each, and of b for numbers that are not below 0 and for those below.
+pub struct CodeScale {
+    pub remap: Remap,
+    pub small: u32,
+    pub large: u32,
+    pub small_part: f32,
+    pub large_part: f32,
+    pub small_unit: i32,
+    pub large_unit: i32,
+    pub up: i32,
+    pub below: i32,
 }
 
-// The exact value of a code at a hebap and a gain.
-pub fn exact_value(hebap: u8, gk: u8, code: Code) -> i32
+pub fn scale_of(hebap: u8, gk: u8) -> CodeScale
     requires { ⌜ (8 ≤ hebap) × (hebap ≤ 19) ⌝ }
+    ensures { λ r. ⌜ r ≡ scaleOf hebap gk ⌝ }
+{
+    let m = mant(hebap);
+    let large = large_bits(m, gk);
+    CodeScale {
+        remap: remap_of(hebap, gk),
+        small: small_bits(m, gk),
+        large,
+        small_part: 1.0 / scale(m - 1),
+        large_part: 1.0 / scale(large - 1),
+        small_unit: power_of_two(31 - m),
+        large_unit: times(one_plus_slope(hebap, gk), power_at(hebap, gk)),
+        up: times(offset_by_sign(hebap, gk, false) as i32, 32768),
+        below: times(offset_by_sign(hebap, gk, true) as i32, 32768),
+    }
+}
+
+// The kind and the f32 value of a code. hebap and gk say whose scale s is.
+pub fn level_of(s: CodeScale, hebap: u8, gk: u8, code: Code) -> Level
+    requires { ⌜ (8 ≤ hebap) × (hebap ≤ 19) ⌝ }
+    requires { ⌜ s ≡ scaleOf hebap gk ⌝ }
+    requires { ⌜ Accepted hebap gk code ⌝ }
+    ensures { λ r. ⌜ r ≡ levelOf hebap gk code ⌝ }
+{
+    match code {
+        Code::Small(u) => Level::Small(signed_code(u, s.small) as f32 * s.small_part),
+        Code::Large(u) => {
+            Level::Large(remap_by(s.remap, signed_code(u, s.large) as f32 * s.large_part))
+        }
+    }
+}
+
+// The exact value of a code.
+pub fn exact_value(s: CodeScale, hebap: u8, gk: u8, code: Code) -> i32
+    requires { ⌜ (8 ≤ hebap) × (hebap ≤ 19) ⌝ }
+    requires { ⌜ s ≡ scaleOf hebap gk ⌝ }
     requires { ⌜ Accepted hebap gk code ⌝ }
     ensures { λ r. ⌜ r ≡ exactOf hebap gk code ⌝ }
 {
-    let m = mant(hebap);
     match code {
-        Code::Small(s) => {
-            let k = signed_code(s, small_bits(m, gk));
-            exact_small(hebap, k)
-        }
-        Code::Large(l) => {
-            let k = signed_code(l, large_bits(m, gk));
-            exact_large(hebap, gk, k)
+        Code::Small(u) => times(signed_code(u, s.small), s.small_unit),
+        Code::Large(u) => {
+            let k = signed_code(u, s.large);
+            let b = if k < 0 { s.below } else { s.up };
+            times(k, s.large_unit) + b
         }
     }
 }

@@ -3,7 +3,7 @@ use mathlib.Core.Path.{_≡_, refl, sym, ap, _∙_}
 use mathlib.Core.Bool.{Bool, true, false, not, _&&_, cond}
 use mathlib.Core.List.{List}
 use Prim.Native.Nat.{ℕ, zero, suc, _+_, _-_, _*_, _/_, _^_, _≤_, _<_}
-use native.Mathlib.Nat.{le-refl, le-trans, le-of-eq, le-antisymm, suc-mul}
+use native.Mathlib.Nat.{le-trans, le-of-eq, le-antisymm, suc-mul, add-mul, mul-le-mul-right}
 use native.Mathlib.Numerals.{add-one}
 use native.Mathlib.Omega.{arith}
 use borrow.Author.Tests.{le-leb, lt-leb, lt-ltb, le-ltb, ne-eqb}
@@ -17,14 +17,18 @@ use Rattle.gains.specs.declared.Coding.{Coding}
 use Rattle.planner.specs.Bins.{sumOver}
 use Rattle.planner.specs.Cost.{componentBits, sixBits}
 use Rattle.planner.specs.Choice.{cheaper, cheapest}
-use Rattle.planner.specs.Work.{sizeOf, limitOf, limitsOf, bitsBySize, costsOf, costIn, gainIn, codedBits, leastIn, withBin, payloadIn, modeIn}
+use Rattle.planner.specs.Work.{sizeOf, limitOf, limitsOf, costsOf, costIn, gainIn, codedBits, leastIn, withBin, payloadIn, modeIn}
 use Rattle.planner.specs.declared.Costs.{Costs}
 use Rattle.planner.specs.declared.Limits.{Limits}
 use Rattle.planner.specs.declared.Tally.{Tally}
-use Rattle.planner.proofs.Over.{sum-none, sum-next, sum-le}
+use Rattle.planner.proofs.Over.{sum-none, sum-next, sum-le, sum-grows}
 use Rattle.quantiser.specs.Quantise.{scalarBits}
 use Rattle.planner.proofs.Codes.{component-is}
 use Rattle.planner.proofs.Escape.{escape}
+
+-- a component of the size s: small codes have the bits small, the large code behind the tag has the bits large
+abbrev bitsBySize : Float → Float → ℕ → ℕ → ℕ
+bitsBySize s limit small large = cond (le limit s) (small + large) small
 
 -- ---- sums
 pub fits-sum : {a b : ℕ} → a ≤ 65536 → b ≤ 200000 → a + b < 2 ^ 32
@@ -47,6 +51,27 @@ sum-run f c a (suc n) h =
 
 pub sum-run-le : (f : ℕ → ℕ) (c a n : ℕ) → ((k : ℕ) → f k ≤ c) → sumOver f a (a + n) ≤ n * c
 sum-run-le f c a n h = le-trans (sum-le f (λ k. c) a (a + n) (λ k p q. h k)) (le-of-eq (sum-run (λ k. c) c a n (λ k. refl)))
+
+-- numbers that are small, or small + large where p holds
+pub sum-counted : (f : ℕ → ℕ) (p : ℕ → Bool) (small large a n : ℕ) → ((k : ℕ) → f k ≡ cond (p k) (small + large) small)
+    → sumOver f a (a + n) ≡ n * small + sumOver (λ k. cond (p k) 1 0) a (a + n) * large
+sum-counted f p small large a zero h =
+    let g : ℕ → ℕ = λ k. cond (p k) 1 0 in
+    start small large (sumOver f a (a + 0)) (sumOver g a (a + 0)) (sum-none f a (a + 0) (omega arith)) (sum-none g a (a + 0) (omega arith))
+  where
+    start : (small large s c : ℕ) → s ≡ 0 → c ≡ 0 → s ≡ 0 * small + c * large
+    start small large s c p q = rw (p, q) (omega arith)
+sum-counted f p small large a (suc n) h =
+    let g : ℕ → ℕ = λ k. cond (p k) 1 0 in
+    let e : a + suc n ≡ suc (a + n) = omega arith in
+    let l : a ≤ a + n = omega arith in
+    let c = sumOver g a (a + n) in
+    ap (sumOver f a) e ∙ sum-next f a (a + n) l ∙ step (p (a + n)) (sumOver f a (a + n)) (f (a + n)) c (sum-counted f p small large a n h) (h (a + n))
+    ∙ sym (ap (λ (z : ℕ). suc n * small + z * large) (ap (sumOver g a) e ∙ sum-next g a (a + n) l))
+  where
+    step : (b : Bool) (s t c : ℕ) → s ≡ n * small + c * large → t ≡ cond b (small + large) small → s + t ≡ suc n * small + (c + cond b 1 0) * large
+    step true s t c p q = let m = suc-mul n small in let k = add-mul c 1 large in omega arith
+    step false s t c p q = let m = suc-mul n small in let k = add-mul c 0 large in omega arith
 
 -- ---- one component
 pub width : (h m : ℕ) → 8 ≤ h → h ≤ 16 → m ≡ mantBits h → (3 ≤ m) × (m ≤ 16)
@@ -75,31 +100,34 @@ module _ (h m : ℕ) (x : Float) (low : 8 ≤ h) (high : h ≤ 16) (em : m ≡ m
       ∙ sym (flip (le (limitOf (M - 1) (M - 2)) (sizeOf x)) (M - 2) M)
       ∙ sym (ap (λ (t : Bool). cond t (M - 2) (M - 2 + M)) (escape (M - 1) (M - 2) x (omega arith) (omega arith) (omega arith) f))
 
-  pub two-is : (s : Float) (l : Limits) (r : ℕ) → l ≡ limitsOf h → s ≡ sizeOf x → r ≡ bitsBySize s (l .two) (m - 1) (m - 1) → r ≡ scalarBits h 2 x
-  two-is s l r el es er = er ∙ ap (λ (z : Float). bitsBySize z (l .two) (m - 1) (m - 1)) es ∙ ap (λ (z : Limits). bitsBySize (sizeOf x) (z .two) (m - 1) (m - 1)) el ∙ code-two
+  two-is : (l : Limits) → l ≡ limitsOf h → scalarBits h 2 x ≡ bitsBySize (sizeOf x) (l .two) (m - 1) (m - 1)
+  two-is l el = sym (ap (λ (z : Limits). bitsBySize (sizeOf x) (z .two) (m - 1) (m - 1)) el ∙ code-two)
 
-  pub four-is : (s : Float) (l : Limits) (r : ℕ) → l ≡ limitsOf h → s ≡ sizeOf x → r ≡ bitsBySize s (l .four) (m - 2) m → r ≡ scalarBits h 4 x
-  four-is s l r el es er = er ∙ ap (λ (z : Float). bitsBySize z (l .four) (m - 2) m) es ∙ ap (λ (z : Limits). bitsBySize (sizeOf x) (z .four) (m - 2) m) el ∙ code-four
-
-pub code-most : (s limit : Float) (small large : ℕ) → bitsBySize s limit small large ≤ small + large
-code-most s limit small large = go (le limit s)
-  where
-    go : (t : Bool) → cond t (small + large) small ≤ small + large
-    go true = le-refl (small + large)
-    go false = omega arith
+  four-is : (l : Limits) → l ≡ limitsOf h → scalarBits h 4 x ≡ bitsBySize (sizeOf x) (l .four) (m - 2) m
+  four-is l el = sym (ap (λ (z : Limits). bitsBySize (sizeOf x) (z .four) (m - 2) m) el ∙ code-four)
 
 -- ---- one bin
 pub six-one : (h : ℕ) (x : List Float) (a : ℕ) → 6 * mantBits h ≡ sixBits h x a 1
 unfolding sixBits scalarBits
 six-one h x a = sym (sum-run (componentBits h 1 x) (mantBits h) a 6 (λ k. component-is h 1 x k))
 
-pub costs-gain : (h : ℕ) (x : List Float) (a m two four : ℕ) → 8 ≤ h → h ≤ 16 → m ≡ mantBits h
-    → two ≡ sumOver (componentBits h 2 x) a (a + 6) → four ≡ sumOver (componentBits h 4 x) a (a + 6)
-    → _≡_ {A = Costs} (record { one = 6 * m; two = two; four = four }) (costsOf h x a)
+-- one for a component that takes the tag
+abbrev pub tagged : Float → List Float → ℕ → ℕ
+tagged limit x k = cond (le limit (sizeOf (getD x k nan))) 1 0
+
+pub costs-gain : (h : ℕ) (x : List Float) (a m : ℕ) (l : Limits) (two four : ℕ) → 8 ≤ h → h ≤ 16 → m ≡ mantBits h → l ≡ limitsOf h → ((k : ℕ) → T (fits binary32 (getD x k nan)))
+    → two ≡ sumOver (tagged (l .two) x) a (a + 6) → four ≡ sumOver (tagged (l .four) x) a (a + 6)
+    → _≡_ {A = Costs} (record { one = 6 * m; two = (6 + two) * (m - 1); four = 6 * (m - 2) + four * m }) (costsOf h x a)
 unfolding costsOf sixBits
-costs-gain h x a m two four l u em e2 e4 =
+costs-gain h x a m l two four low high em el f e2 e4 =
     let o : 6 * m ≡ sixBits h x a 1 = ap (λ (k : ℕ). 6 * k) em ∙ six-one h x a in
-    rw (le-leb 8 h l, le-leb h 16 u, o, e2, e4)
+    let c2 : sixBits h x a 2 ≡ 6 * (m - 1) + sumOver (tagged (l .two) x) a (a + 6) * (m - 1) =
+    sum-counted (componentBits h 2 x) (λ k. le (l .two) (sizeOf (getD x k nan))) (m - 1) (m - 1) a 6 (λ k. component-is h 2 x k ∙ two-is h m (getD x k nan) low high em (f k) l el) in
+    let c4 : sixBits h x a 4 ≡ 6 * (m - 2) + sumOver (tagged (l .four) x) a (a + 6) * m =
+    sum-counted (componentBits h 4 x) (λ k. le (l .four) (sizeOf (getD x k nan))) (m - 2) m a 6 (λ k. component-is h 4 x k ∙ four-is h m (getD x k nan) low high em (f k) l el) in
+    let r2 : (6 + two) * (m - 1) ≡ sixBits h x a 2 = add-mul 6 two (m - 1) ∙ ap (λ (c : ℕ). 6 * (m - 1) + c * (m - 1)) e2 ∙ sym c2 in
+    let r4 : 6 * (m - 2) + four * m ≡ sixBits h x a 4 = ap (λ (c : ℕ). 6 * (m - 2) + c * m) e4 ∙ sym c4 in
+    rw (le-leb 8 h low, le-leb h 16 high, o, r2, r4)
 
 module _ (h : ℕ) (x : List Float) (a m : ℕ) (em : m ≡ mantBits h) where
   no-gain : leb 8 h && leb h 16 ≡ false → _≡_ {A = Costs} (record { one = 6 * m; two = 0; four = 0 }) (costsOf h x a)
@@ -191,44 +219,18 @@ with-bin t h c r0 r1 r2 r3 b1 b2 n1 n2 e0 e1 e2 e3 f1 g1 f2 g2 =
     rw (e0, e1, e2, e3, k1, k2)
 
 -- ---- the loop over six components
-pub record Sums (h : ℕ) (x : List Float) (a two four i : ℕ) : Type 0 where
-  pub low : a ≤ i
-  pub high : i ≤ a + 6
-  pub two-sum : two ≡ sumOver (componentBits h 2 x) a i
-  pub four-sum : four ≡ sumOver (componentBits h 4 x) a i
-  pub two-most : two ≤ 32 * (i - a)
-  pub four-most : four ≤ 32 * (i - a)
+pub tagged-most : (limit : Float) (x : List Float) (a i t : ℕ) → i ≤ a + 6 → t ≡ sumOver (tagged limit x) a i → t ≤ 6
+tagged-most limit x a i t h e =
+    let f = tagged limit x in
+    le-trans (le-of-eq e) (le-trans (sum-grows f a i (a + 6) h) (sum-run-le f 1 a 6 (λ k. one-small (le limit (sizeOf (getD x k nan))))))
 
-pub sums-start : (h : ℕ) (x : List Float) (a : ℕ) → Sums h x a 0 0 a
-sums-start h x a = record {
-  low = le-refl a;
-  high = omega arith;
-  two-sum = sym (sum-none (componentBits h 2 x) a a (le-refl a));
-  four-sum = sym (sum-none (componentBits h 4 x) a a (le-refl a));
-  two-most = omega arith;
-  four-most = omega arith;
-}
+pub tagged-turn : (limit : Float) (x : List Float) (a i t : ℕ) (s : Float) (r : ℕ) → a ≤ i → t ≡ sumOver (tagged limit x) a i → s ≡ sizeOf (getD x i nan) → r ≡ cond (le limit s) 1 0
+    → t + r ≡ sumOver (tagged limit x) a (i + 1)
+tagged-turn limit x a i t s r h p es er = sum-turn (tagged limit x) a i t r h p (er ∙ ap (λ (z : Float). cond {A = ℕ} (le limit z) 1 0) es)
 
-pub sums-turn : (h : ℕ) (x : List Float) (a two four i : ℕ) (m : ℕ) (l : Limits) (s : Float) (r q : ℕ) → Sums h x a two four i → i < a + 6 → 8 ≤ h → h ≤ 16 → m ≡ mantBits h → l ≡ limitsOf h
-    → T (fits binary32 (getD x i nan)) → s ≡ sizeOf (getD x i nan) → r ≡ bitsBySize s (l .two) (m - 1) (m - 1) → q ≡ bitsBySize s (l .four) (m - 2) m → Sums h x a (two + r) (four + q) (i + 1)
-sums-turn h x a two four i m l s r q inv end low high em el f es er eq =
-    let w = mant-bits h low (omega arith) in
-    let z2 = code-most s (l .two) (m - 1) (m - 1) in
-    let z4 = code-most s (l .four) (m - 2) m in
-    let n = inv .low in
-    let b2 = inv .two-most in
-    let b4 = inv .four-most in
-    record {
-      low = omega arith;
-      high = omega arith;
-      two-sum = sum-turn (componentBits h 2 x) a i two r n (inv .two-sum) (two-is h m (getD x i nan) low high em f s l r el es er ∙ sym (component-is h 2 x i));
-      four-sum = sum-turn (componentBits h 4 x) a i four q n (inv .four-sum) (four-is h m (getD x i nan) low high em f s l q el es eq ∙ sym (component-is h 4 x i));
-      two-most = more i a two r n b2 (omega arith);
-      four-most = more i a four q n b4 (omega arith);
-    }
-  where
-    more : (i a t r : ℕ) → a ≤ i → t ≤ 32 * (i - a) → r ≤ 32 → t + r ≤ 32 * (i + 1 - a)
-    more i a t r h b c = omega arith
+-- a count times a width
+pub product-most : (a b : ℕ) → a ≤ 12 → b ≤ 16 → a * b ≤ 192
+product-most a b p q = le-trans (mul-le-mul-right b p) (omega arith)
 
 -- ---- payloads
 pub word-small : (mode n : ℕ) → n ≤ 65536 → gainWordBits mode n ≤ 200000

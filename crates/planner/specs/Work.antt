@@ -29,10 +29,6 @@ limitOf n b = fin false (2 ^ b - 1) (negsuc n)
 unfoldable pub limitsOf : ℕ → Limits
 limitsOf h = let m = mantBits h in record { two = limitOf (m - 1) (m - 1); four = limitOf (m - 1) (m - 2) }
 
--- a component of the size s: small codes have the bits small, the large code behind the tag has the bits large
-abbrev pub bitsBySize : Float → Float → ℕ → ℕ → ℕ
-bitsBySize s limit small large = cond (le limit s) (small + large) small
-
 -- ---- one bin
 -- six codes at Gk 1, 2 and 4; only hebap 8 to 16 may have a gain other than 1
 unfoldable pub costsOf : ℕ → List Float → ℕ → Costs

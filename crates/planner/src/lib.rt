@@ -8,7 +8,7 @@ ghost use Rattle.gains.specs.Gains.{codingOf};
 ghost use Rattle.planner.specs.Bins.{sumOver, someOver};
 ghost use Rattle.planner.specs.Choice.{cheaper, gainsOver, activeCount, chosenAt};
 ghost use Rattle.planner.specs.Fit.{wrongGain, planFits};
-ghost use Rattle.planner.specs.Work.{sizeOf, limitsOf, bitsBySize, costsOf, costIn, gainIn, codedBits, leastIn, tallyOf, withBin, payloadIn, modeIn, Bounded, Within};
+ghost use Rattle.planner.specs.Work.{sizeOf, limitsOf, costsOf, costIn, gainIn, codedBits, leastIn, tallyOf, withBin, payloadIn, modeIn, Bounded, Within};
 ghost use Rattle.planner.specs.Planning.{noGains, unknownAt, tooLargeAt, refusalOf, planOf, causeOf, planned};
 use gains::Coding;
 
@@ -99,14 +99,14 @@ fn size(x: f32) -> f32
     if x < 0.0 { -x } else { x }
 }
 
-fn bits_by_size(s: f32, limit: f32, small: u32, large: u32) -> u32
-    requires { ⌜ (small ≤ 16) × (large ≤ 16) ⌝ }
-    ensures { λ r. ⌜ r ≡ bitsBySize s limit small large ⌝ }
+fn one_if(b: bool) -> u32
+    ensures { λ r. ⌜ r ≡ cond b 1 0 ⌝ }
 {
-    if s >= limit { small + large } else { small }
+    if b { 1 } else { 0 }
 }
 
-// The bits of six components at each gain, each looked at once.
+// The bits of six components at each gain, each looked at once: how many take the tag is counted, which the machine does for several
+// together.
 fn gain_costs(hebap: u8, x: &[f32], a: usize) -> Costs
     requires { ⌜ (8 ≤ hebap) × (hebap ≤ 16) ⌝ }
     requires { ⌜ a + 6 ≤ length (now x) ⌝ }
@@ -120,14 +120,14 @@ fn gain_costs(hebap: u8, x: &[f32], a: usize) -> Costs
     let end = a + 6;
     while i < end {
         let s = size(x[i]);
-        two += bits_by_size(s, l.two, m - 1, m - 1);
-        four += bits_by_size(s, l.four, m - 2, m);
+        two += one_if(s >= l.two);
+        four += one_if(s >= l.four);
         i += 1;
     }
     Costs {
         one: 6 * m,
-        two,
-        four,
+        two: (6 + two) * (m - 1),
+        four: 6 * (m - 2) + four * m,
     }
 }
 
@@ -193,12 +193,6 @@ fn least_bits(mode: u8, hebap: u8, c: Costs) -> u32
     ensures { λ r. ⌜ r ≡ leastIn mode hebap c ⌝ }
 {
     coded_bits(mode, hebap, c, best_gain(mode, c))
-}
-
-fn one_if(b: bool) -> u32
-    ensures { λ r. ⌜ r ≡ cond b 1 0 ⌝ }
-{
-    if b { 1 } else { 0 }
 }
 
 fn add_bin(t: Tally, hebap: u8, c: Costs) -> Tally

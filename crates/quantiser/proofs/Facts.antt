@@ -3,7 +3,7 @@ use Prim.Native.Nat.{ℕ, _+_, _-_, _^_, _≤_, _<_}
 use mathlib.Core.Bool.{Bool, true, false, cond}
 use mathlib.Core.Path.{_≡_, refl, _∙_}
 use native.Mathlib.Omega.{arith}
-use borrow.Author.Tests.{eqb-true, eqb-false, ne-eqb}
+use borrow.Author.Tests.{eqb-true, eqb-false, eq-eqb, ne-eqb}
 use lib.Dec.{eqb}
 use lib.Ieee.{Float}
 use lib.IntN.{ℤ}
@@ -58,6 +58,18 @@ module _ (h g : ℕ) (x : Float) where
       go true e u f = a (eqb-true g 1 e)
       go false e true f = b (eqb-false g 1 e) f
       go false e false f = c (eqb-false g 1 e) f
+
+  pub picked-one : g ≡ 1 → picked h g x ≡ one
+  unfolding picked oneCode
+  picked-one e = rw (eq-eqb g 1 e)
+
+  pub picked-small : (g ≡ 1 → ⊥) → isSmall (smallBits m g) s ≡ true → picked h g x ≡ small
+  unfolding picked taggedCode
+  picked-small n t = rw (ne-eqb g 1 n, t)
+
+  pub picked-large : (g ≡ 1 → ⊥) → isSmall (smallBits m g) s ≡ false → picked h g x ≡ large
+  unfolding picked taggedCode largeCode
+  picked-large n t = rw (ne-eqb g 1 n, t)
 
   -- ---- how many bits: what scalar_bits of the Rust says
   pub picked-bits : codeBits m g (picked h g x .0) ≡ scalarBits h g x

@@ -23,12 +23,22 @@ abs-below (inf false) h = absurd (true≢false (sym h))
 abs-below (fin true m e) h = refl
 abs-below (fin false m e) h = absurd (let l = ltb-true (m * up e * 1) (0 * down e) h in omega arith)
 
-two-le : (k : ℕ) → 2 ≤ 2 ^ suc k
-two-le k = pow-mono {i = 1} {j = suc k} (omega arith)
-
 and-true : (a b : Bool) → a && b ≡ true → a ≡ true
 and-true true b h = refl
 and-true false b h = h
+
+pub below-not-zero : (x : Float) → lt x f0 ≡ true → eq (neg x) f0 ≡ true → ⊥
+unfolding lt neg eq ofBits
+below-not-zero nan h k = true≢false (sym h)
+below-not-zero (inf s) h k = true≢false (sym k)
+below-not-zero (fin true m e) h k =
+    let l = ltb-true 0 (m * up e * 1 + 0 * down e) h in
+    let z = eqb-true (m * up e * 1) (0 * down e) (and-true (eqb (m * up e * 1) (0 * down e)) _ k) in
+    omega arith
+below-not-zero (fin false m e) h k = let l = ltb-true (m * up e * 1) (0 * down e) h in omega arith
+
+two-le : (k : ℕ) → 2 ≤ 2 ^ suc k
+two-le k = pow-mono {i = 1} {j = suc k} (omega arith)
 
 -- the only zeros that are held are 0.0 and -0.0
 pub abs-zero : (x : Float) → T (fits binary32 x) → eq x f0 ≡ true → f0 ≡ absF x

@@ -3,6 +3,8 @@ pub mod Double
 pub mod Signs
 pub mod Floats
 pub mod Probing
+pub mod Fixed
 pub mod Bounds
 pub mod Bins
 pub mod Facts
+pub mod Found

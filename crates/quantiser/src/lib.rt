@@ -1,16 +1,22 @@
 // The quantiser: which code is picked for a mantissa, operation by operation as in the Rust.
 ghost use mathlib.Core.Path.{_≡_};
 ghost use Prim.Native.Nat.{_+_, _<_, _≤_, _^_, _-_};
-ghost use lib.Dec.{T};
+ghost use mathlib.Core.Bool.{cond};
+ghost use lib.Dec.{T, eqb};
 ghost use lib.IntN.{pos, negℤ};
 ghost use lib.ListN.{length};
 ghost use lib.Signed.{mag};
-ghost use lib.Ieee.{binary32, lt, ofBits};
+ghost use lib.Ieee.{binary32, lt, div, ofBits};
 ghost use Rattle.quantiser.specs.Round.{roundMag, roundAway};
-ghost use Rattle.quantiser.specs.Quantise.{f1e-9, clampZ, minZ, toBits, absF, maxF, valueAt, probed, bestOf, estOne, bestOne, slopeAt, estLarge, bestLarge, smallOf, isSmall, oneCode, largeCode, taggedCode, picked, codeLevel, allowed, quantised, binValues, codesBits, errorFrom, binOf, noBin, quantisedBin};
-ghost use Rattle.levels.specs.Value.{f0};
+ghost use Rattle.quantiser.specs.Quantise.{f1e-9, clampZ, minZ, toBits, absF, maxF, valueAt, probed, bestOf, bestOne, slopeAt, estLarge, bestLarge, smallOf, isSmall, oneCode, largeCode, picked, codeLevel, allowed, quantised, binValues, codesBits, errorFrom, binOf, noBin, quantisedBin};
+ghost use Rattle.quantiser.specs.Work.{exponentOf, stepsOf};
+ghost use Rattle.tables.specs.Tables.{mantBits};
+ghost use Rattle.levels.specs.Codes.{largeBits, codeBits};
+ghost use Rattle.levels.specs.Work.{wordOf, remapOf};
+ghost use Rattle.levels.specs.Value.{f0, f1, power, gaqRemap};
 use levels::Code;
 use levels::Level;
+use levels::Remap;
 
 // The code that is picked and its level, or the number of the refusal.
 pub enum PickResult {
@@ -38,6 +44,27 @@ pub struct CodeLevel {
     pub level: Level,
 }
 
+// What a hebap and a gain fix, worked out once for many components: the remap; n, where 2^n is the whole scale of the large codes (at
+// Gk 1 of all), and 1 / 2^n; the step of the estimate; the values of the levels 0 and -1; the whole scale and the bits of the small
+// codes, and the bits of the large ones.
+pub struct Steps {
+    pub remap: Remap,
+    pub n: u32,
+    pub part: f32,
+    pub unit: f32,
+    pub zero: f32,
+    pub below: f32,
+    pub whole: f32,
+    pub small: u32,
+    pub large: u32,
+}
+
+// A code as one number, its tag with it, and how many bits that has.
+pub struct CodeWord {
+    pub bits: u32,
+    pub width: u32,
+}
+
 // The best level so far and its error.
 pub struct Best {
     pub k: i64,
@@ -58,22 +85,22 @@ fn magnitude(x: f32) -> u64
     }
 }
 
-// To the nearest whole number, halves away from zero, held to an i32; 0 for a NaN.
+// To the nearest whole number, halves away from zero, held to an i32; 0 for a NaN. Both signs take one
+// path.
 fn round_half_away(x: f32) -> i64
     ensures { λ r. ⌜ r ≡ roundAway x ⌝ }
 {
-    if x > 0.0 {
-        let n = magnitude(x);
-        if n < 2147483648 {
-            return n as i64;
+    let a = if x < 0.0 { -x } else { x };
+    if a > 0.0 {
+        let n = magnitude(a);
+        if x < 0.0 {
+            0 - (n as i64)
+        } else {
+            if n < 2147483648 { n as i64 } else { 2147483647 }
         }
-        return 2147483647;
+    } else {
+        0
     }
-    if x < 0.0 {
-        let n = magnitude(-x);
-        return 0 - (n as i64);
-    }
-    0
 }
 
 // ---- integers; i64 leaves room for an estimate and one more
@@ -131,13 +158,8 @@ fn to_bits(v: i64, n: u32) -> u32
 fn abs(x: f32) -> f32
     ensures { λ r. ⌜ r ≡ absF x ⌝ }
 {
-    if x < 0.0 {
-        return -x;
-    }
-    if x == 0.0 {
-        return 0.0;
-    }
-    x
+    let y = if x < 0.0 { -x } else { x };
+    if y == 0.0 { 0.0 } else { y }
 }
 
 // a.max(1e-9)
@@ -155,68 +177,46 @@ fn at_least(a: f32) -> f32
 
 // ---- probes
 
-// The f32 of the level k, where 2^n is the whole scale.
-fn value(hebap: u8, gk: u8, n: u32, k: i64) -> f32
+// The f32 of the level k, where 2^n is the whole scale and part is 1 / 2^n. hebap and gk say whose remap it is.
+fn value(remap: Remap, part: f32, hebap: u8, gk: u8, n: u32, k: i64) -> f32
     requires { ⌜ (8 ≤ hebap) × (hebap ≤ 19) ⌝ }
+    requires { ⌜ (remap ≡ remapOf hebap gk) × (part ≡ div binary32 f1 (power n)) ⌝ }
     requires { ⌜ mag k < 2 ^ 24 ⌝ }
-    requires { ⌜ n ≤ 16 ⌝ }
+    requires { ⌜ (1 ≤ n) × (n ≤ 16) ⌝ }
     ensures { λ r. ⌜ r ≡ valueAt hebap gk n k ⌝ }
 {
-    levels::gaq_remap(hebap, gk, levels::divided_code(k as i32, n))
+    levels::remap_by(remap, k as i32 as f32 * part)
 }
 
-fn probe(hebap: u8, gk: u8, n: u32, lo: i64, hi: i64, x: f32, z: i64, best: Best) -> Best
+fn probe(st: Steps, hebap: u8, gk: u8, lo: i64, hi: i64, x: f32, z: i64, best: Best) -> Best
     requires { ⌜ (8 ≤ hebap) × (hebap ≤ 19) ⌝ }
-    requires { ⌜ n ≤ 16 ⌝ }
+    requires { ⌜ st ≡ stepsOf hebap gk ⌝ }
     requires { ⌜ (mag lo < 2 ^ 24) × (mag hi < 2 ^ 24) ⌝ }
-    ensures { λ r. ⌜ r ≡ probed hebap gk n lo hi x z best ⌝ }
+    ensures { λ r. ⌜ r ≡ probed hebap gk (exponentOf hebap gk) lo hi x z best ⌝ }
 {
     let k = clamp(z, lo, hi);
-    let e = abs(value(hebap, gk, n, k) - x);
+    let e = abs(value(st.remap, st.part, hebap, gk, st.n, k) - x);
     if e < best.e { Best { k, e } } else { best }
 }
 
 // The first of est - 1, est and est + 1 with the least error.
-fn search(hebap: u8, gk: u8, n: u32, lo: i64, hi: i64, x: f32, start: i64, est: i64) -> i64
+fn search(st: Steps, hebap: u8, gk: u8, lo: i64, hi: i64, x: f32, start: i64, est: i64) -> i64
     requires { ⌜ (8 ≤ hebap) × (hebap ≤ 19) ⌝ }
-    requires { ⌜ n ≤ 16 ⌝ }
+    requires { ⌜ st ≡ stepsOf hebap gk ⌝ }
     requires { ⌜ (mag lo < 2 ^ 24) × (mag hi < 2 ^ 24) × (mag start < 2 ^ 24) × (mag est < 2 ^ 40) ⌝ }
-    ensures { λ r. ⌜ r ≡ bestOf hebap gk n lo hi x start est ⌝ }
+    ensures { λ r. ⌜ r ≡ bestOf hebap gk (exponentOf hebap gk) lo hi x start est ⌝ }
 {
     let first = Best {
         k: start,
         e: f32::from_bits(0x7f80_0000),
     };
-    let b = probe(hebap, gk, n, lo, hi, x, est - 1, first);
-    let c = probe(hebap, gk, n, lo, hi, x, est, b);
-    let d = probe(hebap, gk, n, lo, hi, x, est + 1, c);
+    let b = probe(st, hebap, gk, lo, hi, x, est - 1, first);
+    let c = probe(st, hebap, gk, lo, hi, x, est, b);
+    let d = probe(st, hebap, gk, lo, hi, x, est + 1, c);
     d.k
 }
 
-// ---- Gk 1
-
-fn estimate_one(hebap: u8, n: u32, x: f32) -> i64
-    requires { ⌜ (8 ≤ hebap) × (hebap ≤ 19) ⌝ }
-    requires { ⌜ n ≤ 16 ⌝ }
-    ensures { λ r. ⌜ r ≡ estOne hebap n x ⌝ }
-{
-    let unit = levels::gaq_remap(hebap, 1, 1.0 / levels::scale(n));
-    if unit > 0.0 {
-        return round_half_away(x / unit);
-    }
-    0
-}
-
-fn search_one(hebap: u8, n: u32, x: f32) -> i64
-    requires { ⌜ (8 ≤ hebap) × (hebap ≤ 19) ⌝ }
-    requires { ⌜ n ≤ 16 ⌝ }
-    ensures { λ r. ⌜ r ≡ bestOne hebap n x ⌝ }
-{
-    let est = estimate_one(hebap, n, x);
-    search(hebap, 1, n, opposite(n), highest(n), x, 0, est)
-}
-
-// ---- Gk 2 and 4
+// ---- what a hebap and a gain fix
 
 // 1.min(2^n - 1)
 fn first_level(n: u32) -> i64
@@ -227,42 +227,86 @@ fn first_level(n: u32) -> i64
     if top < 1 { top as i64 } else { 1 }
 }
 
-fn slope(hebap: u8, gk: u8, n: u32) -> f32
+// The step of the estimate: at Gk 1 the value of the level 1, else what the levels 1 and 0 differ by.
+fn unit(remap: Remap, part: f32, hebap: u8, gk: u8, n: u32) -> f32
     requires { ⌜ (8 ≤ hebap) × (hebap ≤ 19) ⌝ }
-    requires { ⌜ n ≤ 16 ⌝ }
-    ensures { λ r. ⌜ r ≡ slopeAt hebap gk n ⌝ }
+    requires { ⌜ (remap ≡ remapOf hebap gk) × (part ≡ div binary32 f1 (power n)) ⌝ }
+    requires { ⌜ (1 ≤ n) × (n ≤ 16) ⌝ }
+    ensures { λ r. ⌜ r ≡ cond (eqb gk 1) (gaqRemap hebap 1 (div binary32 f1 (power n))) (slopeAt hebap gk n) ⌝ }
 {
-    at_least(value(hebap, gk, n, first_level(n)) - value(hebap, gk, n, 0))
-}
-
-fn estimate_large(hebap: u8, gk: u8, n: u32, x: f32) -> i64
-    requires { ⌜ (8 ≤ hebap) × (hebap ≤ 19) ⌝ }
-    requires { ⌜ n ≤ 16 ⌝ }
-    ensures { λ r. ⌜ r ≡ estLarge hebap gk n x ⌝ }
-{
-    let s = slope(hebap, gk, n);
-    if x >= 0.0 {
-        let r = round_half_away((x - value(hebap, gk, n, 0)) / s);
-        return clamp(r, 0, highest(n));
+    if gk == 1 {
+        return levels::remap_by(remap, part);
     }
-    let r = round_half_away((x - value(hebap, gk, n, -1)) / s);
-    clamp(-1 + r, lowest(n), -1)
+    at_least(value(remap, part, hebap, gk, n, first_level(n)) - value(remap, part, hebap, gk, n, 0))
 }
 
-fn search_large(hebap: u8, gk: u8, n: u32, x: f32) -> i64
+pub fn steps_of(hebap: u8, gk: u8) -> Steps
     requires { ⌜ (8 ≤ hebap) × (hebap ≤ 19) ⌝ }
-    requires { ⌜ n ≤ 16 ⌝ }
-    ensures { λ r. ⌜ r ≡ bestLarge hebap gk n x ⌝ }
+    ensures { λ r. ⌜ r ≡ stepsOf hebap gk ⌝ }
 {
-    let est = estimate_large(hebap, gk, n, x);
-    search(hebap, gk, n, lowest(n), highest(n), x, est, est)
+    let m = levels::mant(hebap);
+    let large = levels::large_bits(m, gk);
+    let n = large - 1;
+    let remap = levels::remap_of(hebap, gk);
+    let part = 1.0 / levels::scale(n);
+    Steps {
+        remap,
+        n,
+        part,
+        unit: unit(remap, part, hebap, gk, n),
+        zero: value(remap, part, hebap, gk, n, 0),
+        below: value(remap, part, hebap, gk, n, -1),
+        whole: levels::scale(m - 1),
+        small: levels::small_bits(m, gk),
+        large,
+    }
 }
 
-fn small_level(n: u32, x: f32) -> i64
-    requires { ⌜ n ≤ 16 ⌝ }
-    ensures { λ r. ⌜ r ≡ smallOf n x ⌝ }
+// ---- Gk 1
+
+fn search_one(st: Steps, hebap: u8, x: f32) -> i64
+    requires { ⌜ (8 ≤ hebap) × (hebap ≤ 19) ⌝ }
+    requires { ⌜ st ≡ stepsOf hebap 1 ⌝ }
+    ensures { λ r. ⌜ r ≡ bestOne hebap (mantBits hebap - 1) x ⌝ }
 {
-    round_half_away(x * levels::scale(n))
+    let est = if st.unit > 0.0 {
+        round_half_away(x / st.unit)
+    } else {
+        0
+    };
+    search(st, hebap, 1, opposite(st.n), highest(st.n), x, 0, est)
+}
+
+// ---- Gk 2 and 4
+
+fn estimate_large(st: Steps, hebap: u8, gk: u8, x: f32) -> i64
+    requires { ⌜ (8 ≤ hebap) × (hebap ≤ 19) ⌝ }
+    requires { ⌜ (st ≡ stepsOf hebap gk) × (gk ≡ 1 → ⊥) ⌝ }
+    ensures { λ r. ⌜ r ≡ estLarge hebap gk (exponentOf hebap gk) x ⌝ }
+{
+    if x >= 0.0 {
+        let r = round_half_away((x - st.zero) / st.unit);
+        return clamp(r, 0, highest(st.n));
+    }
+    let r = round_half_away((x - st.below) / st.unit);
+    clamp(-1 + r, lowest(st.n), -1)
+}
+
+fn search_large(st: Steps, hebap: u8, gk: u8, x: f32) -> i64
+    requires { ⌜ (8 ≤ hebap) × (hebap ≤ 19) ⌝ }
+    requires { ⌜ (st ≡ stepsOf hebap gk) × (gk ≡ 1 → ⊥) ⌝ }
+    ensures { λ r. ⌜ r ≡ bestLarge hebap gk (exponentOf hebap gk) x ⌝ }
+{
+    let est = estimate_large(st, hebap, gk, x);
+    search(st, hebap, gk, lowest(st.n), highest(st.n), x, est, est)
+}
+
+fn small_level(st: Steps, hebap: u8, gk: u8, x: f32) -> i64
+    requires { ⌜ (8 ≤ hebap) × (hebap ≤ 19) ⌝ }
+    requires { ⌜ st ≡ stepsOf hebap gk ⌝ }
+    ensures { λ r. ⌜ r ≡ smallOf (mantBits hebap - 1) x ⌝ }
+{
+    round_half_away(x * st.whole)
 }
 
 fn is_small(b: u32, s: i64) -> bool
@@ -277,64 +321,74 @@ fn is_small(b: u32, s: i64) -> bool
 
 // ---- the code that is picked
 
-fn pick_one(hebap: u8, x: f32) -> CodeLevel
+fn pick_one(st: Steps, hebap: u8, x: f32) -> CodeLevel
     requires { ⌜ (8 ≤ hebap) × (hebap ≤ 19) ⌝ }
+    requires { ⌜ st ≡ stepsOf hebap 1 ⌝ }
     ensures { λ r. ⌜ r ≡ codeLevel (oneCode hebap x) ⌝ }
 {
-    let m = levels::mant(hebap);
-    let k = search_one(hebap, m - 1, x);
+    let k = search_one(st, hebap, x);
     CodeLevel {
-        code: Code::Large(to_bits(k, m)),
-        level: Level::Large(value(hebap, 1, m - 1, k)),
+        code: Code::Large(to_bits(k, st.large)),
+        level: Level::Large(value(st.remap, st.part, hebap, 1, st.n, k)),
     }
 }
 
-fn pick_large(hebap: u8, gk: u8, l: u32, x: f32) -> CodeLevel
+fn pick_large(st: Steps, hebap: u8, gk: u8, x: f32) -> CodeLevel
     requires { ⌜ (8 ≤ hebap) × (hebap ≤ 19) ⌝ }
-    requires { ⌜ (1 ≤ l) × (l ≤ 16) ⌝ }
-    ensures { λ r. ⌜ r ≡ codeLevel (largeCode hebap gk l x) ⌝ }
+    requires { ⌜ (st ≡ stepsOf hebap gk) × (gk ≡ 1 → ⊥) ⌝ }
+    ensures { λ r. ⌜ r ≡ codeLevel (largeCode hebap gk (largeBits (mantBits hebap) gk) x) ⌝ }
 {
-    let k = search_large(hebap, gk, l - 1, x);
+    let k = search_large(st, hebap, gk, x);
     CodeLevel {
-        code: Code::Large(to_bits(k, l)),
-        level: Level::Large(value(hebap, gk, l - 1, k)),
+        code: Code::Large(to_bits(k, st.large)),
+        level: Level::Large(value(st.remap, st.part, hebap, gk, st.n, k)),
     }
-}
-
-// Small codes of b bits, large ones of l bits.
-fn pick_tagged(hebap: u8, gk: u8, n: u32, b: u32, l: u32, x: f32) -> CodeLevel
-    requires { ⌜ (8 ≤ hebap) × (hebap ≤ 19) ⌝ }
-    requires { ⌜ n ≤ 16 ⌝ }
-    requires { ⌜ (1 ≤ b) × (b ≤ 16) × (1 ≤ l) × (l ≤ 16) ⌝ }
-    ensures { λ r. ⌜ r ≡ codeLevel (taggedCode hebap gk n b l x) ⌝ }
-{
-    let s = small_level(n, x);
-    if is_small(b, s) {
-        return CodeLevel {
-            code: Code::Small(to_bits(s, b)),
-            level: Level::Small(levels::divided_code(s as i32, n)),
-        };
-    }
-    pick_large(hebap, gk, l, x)
 }
 
 // The code for x and its level, where the hebap is 8 to 19.
-pub fn pick(hebap: u8, gk: u8, x: f32) -> CodeLevel
+fn pick(st: Steps, hebap: u8, gk: u8, x: f32) -> CodeLevel
     requires { ⌜ (8 ≤ hebap) × (hebap ≤ 19) ⌝ }
+    requires { ⌜ st ≡ stepsOf hebap gk ⌝ }
     ensures { λ r. ⌜ r ≡ codeLevel (picked hebap gk x) ⌝ }
 {
     if gk == 1 {
-        return pick_one(hebap, x);
+        return pick_one(st, hebap, x);
     }
-    let m = levels::mant(hebap);
-    pick_tagged(
-        hebap,
-        gk,
-        m - 1,
-        levels::small_bits(m, gk),
-        levels::large_bits(m, gk),
-        x,
-    )
+    let s = small_level(st, hebap, gk, x);
+    if is_small(st.small, s) {
+        return CodeLevel {
+            code: Code::Small(to_bits(s, st.small)),
+            level: Level::Small(levels::divided_code(s as i32, levels::mant(hebap) - 1)),
+        };
+    }
+    pick_large(st, hebap, gk, x)
+}
+
+// The same code as one number, its tag with it.
+pub fn word(st: Steps, hebap: u8, gk: u8, x: f32) -> CodeWord
+    requires { ⌜ (8 ≤ hebap) × (hebap ≤ 19) ⌝ }
+    requires { ⌜ st ≡ stepsOf hebap gk ⌝ }
+    ensures { λ r. ⌜ (r .bits ≡ wordOf (mantBits hebap) gk (picked hebap gk x .0)) × (r .width ≡ codeBits (mantBits hebap) gk (picked hebap gk x .0)) ⌝ }
+{
+    if gk == 1 {
+        let k = search_one(st, hebap, x);
+        return CodeWord {
+            bits: to_bits(k, st.large),
+            width: st.large,
+        };
+    }
+    let s = small_level(st, hebap, gk, x);
+    if is_small(st.small, s) {
+        return CodeWord {
+            bits: to_bits(s, st.small),
+            width: st.small,
+        };
+    }
+    let k = search_large(st, hebap, gk, x);
+    CodeWord {
+        bits: levels::two_to(st.small - 1) * levels::two_to(st.large) + to_bits(k, st.large),
+        width: st.small + st.large,
+    }
 }
 
 fn allows(hebap: u8, gk: u8) -> bool
@@ -364,7 +418,7 @@ pub fn quantise_scalar(hebap: u8, gk: u8, x: f32) -> PickResult
 {
     if allows(hebap, gk) {
         if levels::in_range(x) {
-            let p = pick(hebap, gk, x);
+            let p = pick(steps_of(hebap, gk), hebap, gk, x);
             let code = p.code;
             let level = p.level;
             return PickResult::Picked(code, level);
@@ -393,11 +447,12 @@ fn fill(hebap: u8, gk: u8, x: &[f32], values: &mut [f32]) -> Sums
     requires { ⌜ (length (now x) ≡ 6) × (length (now values) ≡ 6) ⌝ }
     ensures { λ r. ⌜ (now (values .exit) ≡ binValues hebap gk (now (x .entry))) × (r .bits ≡ codesBits hebap gk (now (x .entry))) × (r .err ≡ errorFrom hebap gk f0 (now (x .entry))) ⌝ }
 {
+    let st = steps_of(hebap, gk);
     let mut bits: u32 = 0;
     let mut err: f32 = 0.0;
     let mut j: usize = 0;
     while j < x.len() {
-        let p = pick(hebap, gk, x[j]);
+        let p = pick(st, hebap, gk, x[j]);
         let code = p.code;
         let level = p.level;
         let y = levels::value_of(level);

@@ -2,16 +2,18 @@
 use Prim.Native.Nat.{ℕ, _+_, _*_, _^_, _≤_, _<_}
 use mathlib.Core.Path.{_≡_, refl, sym, ap, _∙_}
 use mathlib.Core.Bool.{Bool}
+use mathlib.Core.Logic.{inr}
 use mathlib.Core.List.{List, [], _∷_, map}
 use native.Mathlib.Omega.{arith}
 use lib.IntN.{ℤ}
 use lib.Ieee.{Float}
-use lib.ListN.{length, set, replicate, length-replicate, replicate-append-replicate}
+use lib.ListN.{length, take, drop, set, replicate, length-replicate, replicate-append-replicate}
 use lib.Pow.{pow-mono}
-use Rattle.bits.specs.Bits.{splice}
-use Rattle.bits.specs.Format.{Got, got, refused, andThen, number}
-use Rattle.bits.proofs.Laws.{splice-one, splice-more, length-splice}
-use Rattle.bits.proofs.Lawful.{number-lawful}
+use Rattle.bits.specs.Bits.{bitsOf, numberOf, bitAt, posOf, splice, Inside}
+use Rattle.bits.specs.Format.{Got, got, refused, andThen}
+use Rattle.bits.specs.declared.BitPos.{BitPos}
+use Rattle.bits.proofs.Laws.{number-take-lt, splice-one, splice-more, length-splice}
+use Rattle.bits.proofs.Reading.{number-there, behind-inside, number-missing}
 use Rattle.tables.specs.Tables.{mantBits, vqBits}
 use Rattle.tables.proofs.Rules.{vq-most}
 use Rattle.levels.specs.declared.Code.{Code}
@@ -21,7 +23,7 @@ use Rattle.levels.specs.Value.{valueOf}
 use Rattle.scalars.specs.declared.ScalarResult.{ScalarResult}
 use Rattle.scalars.specs.Scalars.{scalarAnswer, sixValues, sixExacts}
 use Rattle.scalars.proofs.Six.{all-there}
-use Rattle.field.specs.Field.{Bin, scalar, Item, codes, item}
+use Rattle.field.specs.Field.{Bin, book, scalar, Item, index, codes, item}
 use Rattle.field.specs.Shown.{valuesOf, exactsOf, indexOf}
 use Rattle.reader.specs.Reading.{WhenGot}
 
@@ -40,13 +42,31 @@ alike-more v at j a h =
 abbrev pub Put : Bin → ℕ → List Float → List Float → List ℤ → List ℤ → List ℕ → List ℕ → Item → Type 0
 Put b k v v′ e e′ i i′ x = (v′ ≡ splice v (6 * k) (valuesOf b x)) × (e′ ≡ splice e (6 * k) (exactsOf b x)) × (i′ ≡ splice i k (indexOf b x ∷ []))
 
--- an index has at most nine bits
-pub index-small : (h i : ℕ) (bs rest : List Bool) → number (vqBits h) .dec bs ≡ got i rest → i < 512
-unfolding number
-index-small h i bs rest e =
-    let l : i < 2 ^ vqBits h = number-lawful (vqBits h) .sole bs rest i e .1 in
-    let m : 2 ^ vqBits h ≤ 2 ^ 9 = pow-mono (vq-most h) in
-    omega arith
+-- the index of a book bin, where `holds` has said of its n bits whether they are there
+module _ (h n : ℕ) (s : List ℕ) (p : BitPos) (e : n ≡ vqBits h) where
+  few : n ≤ 32
+  few = let m = vq-most h in omega arith
+
+  pub index-missing : bitAt p ≤ 8 * length s → 8 * length s < bitAt p + 1 * n → item (book h) .dec (drop (bitAt p) (bitsOf s)) ≡ refused 8
+  index-missing i f = let g : 8 * length s < bitAt p + n = omega arith in rw (← e, number-missing s (bitAt p) n few g (inr i))
+
+  module _ (f : bitAt p + 1 * n ≤ 8 * length s) where
+    there : bitAt p + n ≤ 8 * length s
+    there = omega arith
+
+    -- it is read, and q is the position behind it
+    pub index-there : (i : ℕ) → i ≡ numberOf (take n (drop (bitAt p) (bitsOf s))) → (q : BitPos) → q ≡ posOf (bitAt p + 1 * n)
+        → (item (book h) .dec (drop (bitAt p) (bitsOf s)) ≡ got (index i) (drop (bitAt q) (bitsOf s))) × Inside (8 * length s) q
+    index-there i v q w =
+        let k : q ≡ posOf (bitAt p + n) = w ∙ ap (λ (t : ℕ). posOf (bitAt p + t)) (omega arith) in
+        (rw (← e, k, v, number-there s (bitAt p) n few there), rw k (behind-inside s (bitAt p) n few there))
+
+  -- its vector is in the book, and it has at most nine bits
+  pub index-small : (i : ℕ) → i ≡ numberOf (take n (drop (bitAt p) (bitsOf s))) → (i < 2 ^ vqBits h) × (i < 512)
+  index-small i v =
+      let l : i < 2 ^ vqBits h = rw (v, ← e) (number-take-lt n (drop (bitAt p) (bitsOf s))) in
+      let m : 2 ^ vqBits h ≤ 2 ^ 9 = pow-mono (vq-most h) in
+      (l, omega arith)
 
 -- six codes: what read_six leaves is what their item shows
 pub codes-put : (h g k n : ℕ) (bs : List Bool) (v v′ : List Float) (e e′ : List ℤ) (i : List ℕ) (r : ScalarResult) → k < length i

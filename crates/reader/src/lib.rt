@@ -8,6 +8,7 @@ ghost use lib.ListN.{length, take, drop, replicate};
 ghost use Rattle.bits.specs.Bits.{bitsOf, bitAt, splice, Inside};
 ghost use Rattle.bits.specs.Format.{each};
 ghost use Rattle.levels.specs.Value.{f0};
+ghost use Rattle.books.specs.Work.{VectorsLoaded};
 ghost use Rattle.scalars.specs.Scalars.{scalarAnswer};
 ghost use Rattle.field.specs.Field.{partOf, groupWords, gainWords, book, scalar, item, binOf, binsOf, field};
 ghost use Rattle.field.specs.Shown.{valuesOf, exactsOf, indexOf, valuesIn, exactsIn, indicesIn, valuesShown, exactsShown, indicesShown};
@@ -142,27 +143,26 @@ fn read_index(
     pos: BitPos,
     hebap: u8,
     bin: usize,
-    room: &mut [i16],
+    loaded: &[i16],
     values: &mut [f32],
     exact: &mut [i32],
     indices: &mut [u16],
 ) -> ScalarResult
     requires { ⌜ (1 ≤ hebap) × (hebap ≤ 7) ⌝ }
     requires { ⌜ Inside (8 * length (now src)) pos ⌝ }
-    requires { ⌜ length (now room) ≡ 3072 ⌝ }
+    requires { ⌜ VectorsLoaded (now loaded) ⌝ }
     requires { ⌜ (bin < 256) × (6 * bin + 6 ≤ length (now values)) × (6 * bin + 6 ≤ length (now exact)) × (bin < length (now indices)) ⌝ }
     ensures { λ r. ⌜ r ≡ scalarAnswer (8 * length (now (src .entry))) (item (book hebap) .dec (drop (bitAt pos) (bitsOf (now (src .entry))))) ⌝ }
     ensures { λ r. ⌜ WhenGot (item (book hebap) .dec (drop (bitAt pos) (bitsOf (now (src .entry))))) (λ x. (now (values .exit) ≡ splice (now (values .entry)) (6 * bin) (valuesOf (book hebap) x)) × (now (exact .exit) ≡ splice (now (exact .entry)) (6 * bin) (exactsOf (book hebap) x)) × (now (indices .exit) ≡ splice (now (indices .entry)) bin (indexOf (book hebap) x ∷ []))) ⌝ }
 {
-    let r = pos.read_u32(src, tables::vq_bits(hebap) as u32);
-    match r {
-        BitRead::Refused(k) => ScalarResult::Refused(k),
-        BitRead::Number(i, next) => {
-            books::put_vector(hebap, i as usize, room, 6 * bin, values, exact);
-            indices[bin] = i as u16;
-            ScalarResult::Done(next)
-        }
+    let n = tables::vq_bits(hebap) as u32;
+    if !pos.holds(src.len(), 1, n as usize) {
+        return ScalarResult::Refused(8);
     }
+    let i = pos.number(src, n);
+    books::put_vector(loaded, hebap, i as usize, 6 * bin, values, exact);
+    indices[bin] = i as u16;
+    ScalarResult::Done(pos.after(1, n as usize))
 }
 
 // Zeros at the places of a bin for which nothing stands in the field.
@@ -211,14 +211,14 @@ fn read_bin(
     hebap: u8,
     gk: u8,
     bin: usize,
-    room: &mut [i16],
+    loaded: &[i16],
     values: &mut [f32],
     exact: &mut [i32],
     indices: &mut [u16],
 ) -> ScalarResult
     requires { ⌜ hebap ≤ 19 ⌝ }
     requires { ⌜ Inside (8 * length (now src)) pos ⌝ }
-    requires { ⌜ length (now room) ≡ 3072 ⌝ }
+    requires { ⌜ VectorsLoaded (now loaded) ⌝ }
     requires { ⌜ (bin < 256) × (6 * bin + 6 ≤ length (now values)) × (6 * bin + 6 ≤ length (now exact)) × (bin < length (now indices)) ⌝ }
     ensures { λ r. ⌜ r ≡ scalarAnswer (8 * length (now (src .entry))) (item (binOf mode hebap gk) .dec (drop (bitAt pos) (bitsOf (now (src .entry))))) ⌝ }
     ensures { λ r. ⌜ WhenGot (item (binOf mode hebap gk) .dec (drop (bitAt pos) (bitsOf (now (src .entry))))) (λ x. (now (values .exit) ≡ splice (now (values .entry)) (6 * bin) (valuesOf (binOf mode hebap gk) x)) × (now (exact .exit) ≡ splice (now (exact .entry)) (6 * bin) (exactsOf (binOf mode hebap gk) x)) × (now (indices .exit) ≡ splice (now (indices .entry)) bin (indexOf (binOf mode hebap gk) x ∷ []))) ⌝ }
@@ -228,7 +228,7 @@ fn read_bin(
             put_zeros(bin, values, exact, indices);
             ScalarResult::Done(pos)
         }
-        Coding::Book => read_index(src, pos, hebap, bin, room, values, exact, indices),
+        Coding::Book => read_index(src, pos, hebap, bin, loaded, values, exact, indices),
         Coding::Fixed => read_codes(src, pos, hebap, 1, bin, values, exact, indices),
         Coding::Adaptive => read_codes(src, pos, hebap, gk, bin, values, exact, indices),
     }
@@ -243,7 +243,7 @@ fn read_bins(
     start: usize,
     end: usize,
     gains: &[u8],
-    room: &mut [i16],
+    loaded: &[i16],
     values: &mut [f32],
     exact: &mut [i32],
     indices: &mut [u16],
@@ -251,7 +251,7 @@ fn read_bins(
     requires { ⌜ (start ≤ end) × (end ≤ 256) × (end ≤ length (now row)) ⌝ }
     requires { ⌜ someOver (unknownAt (now row)) start end ≡ false ⌝ }
     requires { ⌜ Inside (8 * length (now src)) pos ⌝ }
-    requires { ⌜ length (now room) ≡ 3072 ⌝ }
+    requires { ⌜ VectorsLoaded (now loaded) ⌝ }
     requires { ⌜ (6 * end ≤ length (now values)) × (6 * end ≤ length (now exact)) × (end ≤ length (now indices)) ⌝ }
     ensures { λ r. ⌜ r ≡ scalarAnswer (8 * length (now (src .entry))) (each item (binsOf mode (partOf (now (row .entry)) start end) (now (gains .entry))) .dec (drop (bitAt pos) (bitsOf (now (src .entry))))) ⌝ }
     ensures { λ r. ⌜ (let bs = binsOf mode (partOf (now (row .entry)) start end) (now (gains .entry)) in WhenGot (each item bs .dec (drop (bitAt pos) (bitsOf (now (src .entry))))) (λ xs. (now (values .exit) ≡ splice (now (values .entry)) (6 * start) (valuesIn bs xs)) × (now (exact .exit) ≡ splice (now (exact .entry)) (6 * start) (exactsIn bs xs)) × (now (indices .exit) ≡ splice (now (indices .entry)) start (indicesIn bs xs)))) ⌝ }
@@ -269,7 +269,7 @@ fn read_bins(
             hebap,
             gk,
             bin,
-            &mut *room,
+            loaded,
             &mut *values,
             &mut *exact,
             &mut *indices,
@@ -297,7 +297,7 @@ fn read_behind(
     start: usize,
     end: usize,
     gains: &mut [u8],
-    room: &mut [i16],
+    loaded: &[i16],
     values: &mut [f32],
     exact: &mut [i32],
     indices: &mut [u16],
@@ -306,7 +306,8 @@ fn read_behind(
     requires { ⌜ (start ≤ end) × (end ≤ 256) × (end ≤ length (now row)) ⌝ }
     requires { ⌜ someOver (unknownAt (now row)) start end ≡ false ⌝ }
     requires { ⌜ Inside (8 * length (now src)) pos ⌝ }
-    requires { ⌜ (length (now gains) ≡ 256) × (length (now room) ≡ 3072) ⌝ }
+    requires { ⌜ length (now gains) ≡ 256 ⌝ }
+    requires { ⌜ VectorsLoaded (now loaded) ⌝ }
     requires { ⌜ (6 * end ≤ length (now values)) × (6 * end ≤ length (now exact)) × (end ≤ length (now indices)) ⌝ }
     ensures { λ r. ⌜ r ≡ behindAnswer mode (8 * length (now (src .entry))) (behindMode mode (partOf (now (row .entry)) start end) .dec (drop (bitAt pos) (bitsOf (now (src .entry))))) ⌝ }
     ensures { λ r. ⌜ (let part = partOf (now (row .entry)) start end in WhenGot (behindMode mode part .dec (drop (bitAt pos) (bitsOf (now (src .entry))))) (λ c. (now (gains .exit) ≡ c .0 ++ drop (length (c .0)) (now (gains .entry))) × (now (values .exit) ≡ splice (now (values .entry)) (6 * start) (valuesShown part (mode, c))) × (now (exact .exit) ≡ splice (now (exact .entry)) (6 * start) (exactsShown part (mode, c))) × (now (indices .exit) ≡ splice (now (indices .entry)) start (indicesShown part (mode, c))))) ⌝ }
@@ -324,7 +325,7 @@ fn read_behind(
                 start,
                 end,
                 &gains[..n],
-                room,
+                loaded,
                 values,
                 exact,
                 indices,
@@ -345,7 +346,7 @@ fn read_field(
     start: usize,
     end: usize,
     gains: &mut [u8],
-    room: &mut [i16],
+    loaded: &[i16],
     values: &mut [f32],
     exact: &mut [i32],
     indices: &mut [u16],
@@ -353,7 +354,8 @@ fn read_field(
     requires { ⌜ (start ≤ end) × (end ≤ 256) × (end ≤ length (now row)) ⌝ }
     requires { ⌜ someOver (unknownAt (now row)) start end ≡ false ⌝ }
     requires { ⌜ Inside (8 * length (now src)) pos ⌝ }
-    requires { ⌜ (length (now gains) ≡ 256) × (length (now room) ≡ 3072) ⌝ }
+    requires { ⌜ length (now gains) ≡ 256 ⌝ }
+    requires { ⌜ VectorsLoaded (now loaded) ⌝ }
     requires { ⌜ (6 * end ≤ length (now values)) × (6 * end ≤ length (now exact)) × (end ≤ length (now indices)) ⌝ }
     ensures { λ r. ⌜ r ≡ fieldAnswer (8 * length (now (src .entry))) (field (partOf (now (row .entry)) start end) .dec (drop (bitAt pos) (bitsOf (now (src .entry))))) ⌝ }
     ensures { λ r. ⌜ (let part = partOf (now (row .entry)) start end in WhenGot (field part .dec (drop (bitAt pos) (bitsOf (now (src .entry))))) (λ c. (now (gains .exit) ≡ c .1 .0 ++ drop (length (c .1 .0)) (now (gains .entry))) × (now (values .exit) ≡ splice (now (values .entry)) (6 * start) (valuesShown part c)) × (now (exact .exit) ≡ splice (now (exact .entry)) (6 * start) (exactsShown part c)) × (now (indices .exit) ≡ splice (now (indices .entry)) start (indicesShown part c)))) ⌝ }
@@ -369,7 +371,7 @@ fn read_field(
             start,
             end,
             gains,
-            room,
+            loaded,
             values,
             exact,
             indices,
@@ -481,7 +483,7 @@ fn read_known(
     exact: &mut [i32],
     indices: &mut [u16],
     gains: &mut [u8],
-    room: &mut [i16],
+    loaded: &[i16],
     v: &mut [f32],
     e: &mut [i32],
     x: &mut [u16],
@@ -490,7 +492,8 @@ fn read_known(
     requires { ⌜ someOver (unknownAt (now hebap)) start end ≡ false ⌝ }
     requires { ⌜ Inside (8 * length (now src)) pos ⌝ }
     requires { ⌜ (6 * end ≤ length (now values)) × (6 * end ≤ length (now exact)) × (end ≤ length (now indices)) ⌝ }
-    requires { ⌜ (length (now gains) ≡ 256) × (length (now room) ≡ 3072) ⌝ }
+    requires { ⌜ length (now gains) ≡ 256 ⌝ }
+    requires { ⌜ VectorsLoaded (now loaded) ⌝ }
     requires { ⌜ (length (now v) ≡ 1536) × (length (now e) ≡ 1536) × (length (now x) ≡ 256) ⌝ }
     ensures { λ r. ⌜ r ≡ fieldAnswer (8 * length (now (src .entry))) (field (partOf (now (hebap .entry)) start end) .dec (drop (bitAt pos) (bitsOf (now (src .entry))))) ⌝ }
     ensures { λ r. ⌜ now (values .exit) ≡ withShown (valuesShown (partOf (now (hebap .entry)) start end)) (6 * start) (now (values .entry)) (field (partOf (now (hebap .entry)) start end) .dec (drop (bitAt pos) (bitsOf (now (src .entry))))) ⌝ }
@@ -505,7 +508,7 @@ fn read_known(
         start,
         end,
         gains,
-        room,
+        loaded,
         &mut *v,
         &mut *e,
         &mut *x,
@@ -530,12 +533,13 @@ fn read_with(
     exact: &mut [i32],
     indices: &mut [u16],
     gains: &mut [u8],
-    room: &mut [i16],
+    loaded: &[i16],
     v: &mut [f32],
     e: &mut [i32],
     x: &mut [u16],
 ) -> FieldResult
-    requires { ⌜ (length (now gains) ≡ 256) × (length (now room) ≡ 3072) ⌝ }
+    requires { ⌜ length (now gains) ≡ 256 ⌝ }
+    requires { ⌜ VectorsLoaded (now loaded) ⌝ }
     requires { ⌜ (length (now v) ≡ 1536) × (length (now e) ≡ 1536) × (length (now x) ≡ 256) ⌝ }
     ensures { λ r. ⌜ r ≡ fieldAnswer (8 * length (now (src .entry))) (channelRead (now (src .entry)) (bitAt pos) (now (hebap .entry)) start end (length (now (values .entry))) (length (now (exact .entry))) (length (now (indices .entry)))) ⌝ }
     ensures { λ r. ⌜ now (values .exit) ≡ withShown (valuesShown (partOf (now (hebap .entry)) start end)) (6 * start) (now (values .entry)) (channelRead (now (src .entry)) (bitAt pos) (now (hebap .entry)) start end (length (now (values .entry))) (length (now (exact .entry))) (length (now (indices .entry)))) ⌝ }
@@ -558,7 +562,7 @@ fn read_with(
             exact,
             indices,
             gains,
-            room,
+            loaded,
             v,
             e,
             x,
@@ -621,7 +625,8 @@ pub fn read_aht_channel(
     ensures { λ r. ⌜ now (indices .exit) ≡ withShown (indicesShown (partOf (now (hebap .entry)) start end)) start (now (indices .entry)) (channelRead (now (src .entry)) (bitAt pos) (now (hebap .entry)) start end (length (now (values .entry))) (length (now (exact .entry))) (length (now (indices .entry)))) ⌝ }
 {
     let mut gains = planner::no_gains();
-    let mut room = [0i16; 3072];
+    let mut room = [0i16; 5736];
+    books::load_vectors(&mut room);
     let mut v = [0.0f32; 1536];
     let mut e = [0i32; 1536];
     let mut x = [0u16; 256];
@@ -635,7 +640,7 @@ pub fn read_aht_channel(
         exact,
         indices,
         &mut gains,
-        &mut room,
+        &room,
         &mut v,
         &mut e,
         &mut x,

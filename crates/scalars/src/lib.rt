@@ -30,21 +30,19 @@ fn read_tagged(src: &[u8], pos: BitPos, w: u32, v: u32) -> CodeResult
     ensures { λ r. ⌜ codeIn (bitsOf (now (src .entry))) r ≡ tagged w v .dec (drop (bitAt pos) (bitsOf (now (src .entry)))) ⌝ }
     ensures { λ r. ⌜ CodeNext (8 * length (now (src .entry))) r ⌝ }
 {
-    let first = pos.read_u32(src, w);
-    match first {
-        BitRead::Refused(k) => CodeResult::Refused(k),
-        BitRead::Number(s, next) => {
-            if s == levels::two_to(w - 1) {
-                let second = next.read_u32(src, v);
-                match second {
-                    BitRead::Refused(k) => CodeResult::Refused(k),
-                    BitRead::Number(l, end) => CodeResult::Read(Code::Large(l), end),
-                }
-            } else {
-                CodeResult::Read(Code::Small(s), next)
-            }
-        }
+    if !pos.holds(src.len(), 1, w as usize) {
+        return CodeResult::Refused(8);
     }
+    let s = pos.number(src, w);
+    let next = pos.after(1, w as usize);
+    if s != levels::two_to(w - 1) {
+        return CodeResult::Read(Code::Small(s), next);
+    }
+    if !next.holds(src.len(), 1, v as usize) {
+        return CodeResult::Refused(8);
+    }
+    let l = next.number(src, v);
+    CodeResult::Read(Code::Large(l), next.after(1, v as usize))
 }
 
 // A code of the hebap at the gain.
@@ -56,19 +54,18 @@ pub fn read_code(src: &[u8], pos: BitPos, hebap: u8, gk: u8) -> CodeResult
 {
     let m = levels::mant(hebap);
     if gk == 1 {
-        let r = pos.read_u32(src, m);
-        match r {
-            BitRead::Refused(k) => CodeResult::Refused(k),
-            BitRead::Number(l, next) => CodeResult::Read(Code::Large(l), next),
+        if !pos.holds(src.len(), 1, m as usize) {
+            return CodeResult::Refused(8);
         }
-    } else {
-        read_tagged(
-            src,
-            pos,
-            levels::small_bits(m, gk),
-            levels::large_bits(m, gk),
-        )
+        let l = pos.number(src, m);
+        return CodeResult::Read(Code::Large(l), pos.after(1, m as usize));
     }
+    read_tagged(
+        src,
+        pos,
+        levels::small_bits(m, gk),
+        levels::large_bits(m, gk),
+    )
 }
 
 // The six codes of a bin: their f32 and exact values go to the places from `at` on. Where the bits run out, the values of the codes before that stand there.
@@ -88,6 +85,7 @@ pub fn read_six(
     ensures { λ r. ⌜ now (values .exit) ≡ sixValues hebap gk at (drop (bitAt pos) (bitsOf (now (src .entry)))) (now (values .entry)) ⌝ }
     ensures { λ r. ⌜ now (exact .exit) ≡ sixExacts hebap gk at (drop (bitAt pos) (bitsOf (now (src .entry)))) (now (exact .entry)) ⌝ }
 {
+    let s = levels::scale_of(hebap, gk);
     let mut p = pos;
     let mut j: usize = 0;
     while j < 6 {
@@ -97,8 +95,8 @@ pub fn read_six(
                 return ScalarResult::Refused(k);
             }
             CodeResult::Read(code, next) => {
-                values[at + j] = levels::value_of(levels::level_of(hebap, gk, code));
-                exact[at + j] = levels::exact_value(hebap, gk, code);
+                values[at + j] = levels::value_of(levels::level_of(s, hebap, gk, code));
+                exact[at + j] = levels::exact_value(s, hebap, gk, code);
                 p = next;
                 j += 1;
             }

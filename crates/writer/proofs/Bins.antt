@@ -111,8 +111,9 @@ module _ (mode : ℕ) (row : List ℕ) (x : List Float) where
   unfolding binsOf itemsFrom each-enc
   bins-end end k gs h = let z : end - k ≡ 0 = omega arith in rw z
 
-pub part-six : (x : List Float) (k : ℕ) → take (6 * k + 6 - 6 * k) (drop (6 * k) x) ≡ sixOf x k
-part-six x k = let e : 6 * k + 6 - 6 * k ≡ 6 = omega arith in ap (λ (t : ℕ). take t (drop (6 * k) x)) e
+-- the six components from the place a on are those of the bin k where a is its place
+pub part-six : (x : List Float) (k a : ℕ) → a ≡ 6 * k → take (a + 6 - a) (drop a x) ≡ sixOf x k
+part-six x k a h = let e : a + 6 - a ≡ 6 = omega arith in ap (λ (t : ℕ). take t (drop a x)) e ∙ ap (λ (t : ℕ). take 6 (drop t x)) h
 
 pub bit-small : (q : BitPos) → q ≡ posOf (bitAt q) → q .bit < 8
 bit-small q e = let f : q .bit ≡ posOf (bitAt q) .bit = ap (λ (t : BitPos). t .bit) e in omega arith

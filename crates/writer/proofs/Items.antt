@@ -1,21 +1,20 @@
 -- A bin's index and what stands in the field for a bin, by its coding. Assumes nothing.
-use Prim.Native.Nat.{ℕ, zero, suc, _+_, _*_, _^_, _≤_, _<_}
-use mathlib.Core.Path.{_≡_, refl, ap, _∙_, subst}
+use Prim.Native.Nat.{ℕ, zero, suc, _+_, _^_, _≤_}
+use mathlib.Core.Path.{_≡_, refl, ap, subst}
 use mathlib.Core.Bool.{Bool, true, false, cond}
-use mathlib.Core.List.{List, [], _∷_, _++_}
+use mathlib.Core.List.{List, [], _∷_}
 use native.Mathlib.Omega.{arith}
 use borrow.Author.Tests.{le-leb, leb-true, leb-false, eqb-true, eqb-false}
 use lib.Dec.{eqb, leb}
 use lib.Ieee.{Float, inf, lt}
 use lib.IntN.{ℤ}
-use lib.ListN.{length}
-use lib.Pow.{pow-pos}
+use lib.Pow.{pow-mono}
 use Rattle.tables.specs.Tables.{mantBits, vqBits, book}
+use Rattle.tables.proofs.Rules.{vq-most}
 use Rattle.gains.specs.Gains.{active, codingOf}
 use Rattle.gains.specs.declared.Coding.{Coding}
 use Rattle.levels.specs.Codes.{codeBits}
-use Rattle.books.specs.Books.{vectorsOf, distanceOf, searchFrom, nearestIn, searchOf}
-use Rattle.books.proofs.Laws.{HasBook, has-book, same-nearest, longer}
+use Rattle.books.specs.Books.{distanceOf, searchFrom, nearestIn, searchOf}
 use Rattle.quantiser.specs.Quantise.{picked, codesBits}
 use Rattle.field.specs.Field.{scalar, itemBits, codedAs, binOf}
 use Rattle.writer.specs.Written.{itemOf}
@@ -32,31 +31,16 @@ search-most x b m (suc n) k best d p q =
     search-most x b m n (suc k) (cond (lt (distanceOf x b k) d) k best) (cond (lt (distanceOf x b k) d) (distanceOf x b k) d)
     (one-of (lt (distanceOf x b k) d) k best m (omega arith) p) (omega arith)
 
-pub nearest-most : (b : List ℤ) (n : ℕ) (x : List Float) → nearestIn b n x ≤ n
+nearest-most : (b : List ℤ) (n : ℕ) (x : List Float) → nearestIn b n x ≤ n
 unfolding nearestIn
 nearest-most b n x = search-most x b n n 0 0 (inf false) (omega arith) (omega arith)
 
--- in a room with the book at its front
-module _ (h n : ℕ) (l r : List ℤ) (low : 1 ≤ h) (high : h ≤ 7) (e : n ≡ vectorsOf h) (f : l ≡ book h ++ r) where
-  there : HasBook h n
-  there =
-      let k : n ≡ 2 ^ vqBits h = e ∙ rw (le-leb 1 h low, le-leb h 7 high) in
-      let p = pow-pos (vqBits h) in
-      has-book h n e (λ z. omega arith)
-
-  pub book-fits : (n * 6 ≤ length l) × (n < 1024)
-  book-fits =
-      let w = there .whole in
-      let s = there .few in
-      let m = longer (book h) r l f in
-      (omega arith, omega arith)
-
-  pub nearest-is : (x : List Float) → nearestIn l n x ≡ searchOf h x
-  unfolding searchOf
-  nearest-is x =
-      let w = there .whole in
-      let q : n ≡ 2 ^ vqBits h = there .size in
-      rw (f, ← q) (same-nearest (book h) r n x (omega arith))
+pub search-few : (h : ℕ) (x : List Float) → searchOf h x ≤ 512
+unfolding searchOf
+search-few h x =
+    let s : nearestIn (book h) (2 ^ vqBits h) x ≤ 2 ^ vqBits h = nearest-most (book h) (2 ^ vqBits h) x in
+    let m : 2 ^ vqBits h ≤ 2 ^ 9 = pow-mono (vq-most h) in
+    omega arith
 
 -- ---- the hebaps of a coding
 abbrev pub Range : Coding → ℕ → Type 0

@@ -1,22 +1,26 @@
 -- What a call that writes does, in terms of plain numbers and lists. Assumes nothing.
-use Prim.Native.Nat.{ℕ, zero, suc, _+_, _*_, _/_, _%_, _≤_, _<_}
-use mathlib.Core.Path.{_≡_, refl, sym, ap, _∙_, subst}
-use mathlib.Core.Bool.{Bool}
+use Prim.Native.Nat.{ℕ, zero, suc, _+_, _*_, _/_, _%_, _^_, _≤_, _<_}
+use mathlib.Core.Path.{_≡_, refl, sym, ap, _∙_}
+use mathlib.Core.Bool.{Bool, true, false, cond}
 use mathlib.Core.List.{List, [], _∷_, _++_, append-assoc, append-nil}
 use native.Mathlib.Nat.{add-assoc}
 use native.Mathlib.Omega.{arith}
-use borrow.Author.Tests.{eq-eqb, ne-eqb}
+use borrow.Author.Tests.{eq-eqb, ne-eqb, eqb-true, eqb-false}
+use lib.Dec.{eqb}
 use lib.ListN.{length, length-append, replicate}
 use Rattle.bits.specs.Bits.{bitsN, bitAt, posOf, bytesWith}
 use Rattle.bits.specs.Format.{Format, number, each-enc}
 use Rattle.bits.specs.declared.BitPos.{BitPos}
 use Rattle.bits.specs.declared.BitWrite.{BitWrite}
 use Rattle.bits.specs.declared.BitWrite.the-variants.{Done}
-use Rattle.bits.proofs.Laws.{Bytes, length-with, with-none, with-more}
+use Rattle.bits.proofs.Laws.{Bytes, bitsN-cat, length-with, with-none, with-more}
 use Rattle.tables.specs.Tables.{mantBits}
+use Rattle.tables.proofs.Rules.{mant-bits}
 use Rattle.levels.specs.declared.Code.{Code}
 use Rattle.levels.specs.Codes.{tag, smallBits, largeBits, codeBits, tagged, coded, Accepted}
+use Rattle.levels.specs.Work.{wordOf}
 use Rattle.levels.proofs.CodeLaws.{coded-one, coded-tagged}
+use Rattle.levels.proofs.Signed.{small-width, large-width}
 
 -- ---- the answer of write_u32
 pub same-done : (r : BitWrite) (p q : BitPos) → r ≡ Done p → r ≡ Done q → p ≡ q
@@ -41,6 +45,29 @@ module _ (m g : ℕ) where
   pub bits-large : (l : ℕ) → (g ≡ 1 → ⊥) → coded m g .enc (Code.Large l) ≡ bitsN (smallBits m g) (tag (smallBits m g)) ++ bitsN (largeBits m g) l
   unfolding number tagged
   bits-large l n = rw (coded-tagged m g (ne-eqb g 1 n), eq-eqb (tag (smallBits m g)) (tag (smallBits m g)) refl)
+
+-- a code as one number, its tag with it
+pub word-bits : (h g : ℕ) (c : Code) → Accepted h g c → coded (mantBits h) g .enc c ≡ bitsN (codeBits (mantBits h) g c) (wordOf (mantBits h) g c)
+word-bits h g (Code.Small s) a = bits-small (mantBits h) g s (a .0) (a .2)
+word-bits h g (Code.Large l) a = go (eqb g 1) refl
+  where
+    go : (t : Bool) → eqb g 1 ≡ t → coded (mantBits h) g .enc (Code.Large l)
+        ≡ bitsN (cond t (mantBits h) (smallBits (mantBits h) g + largeBits (mantBits h) g)) (cond t l (tag (smallBits (mantBits h) g) * 2 ^ largeBits (mantBits h) g + l))
+    go true e = bits-one (mantBits h) g l (eqb-true g 1 e)
+    go false e = bits-large (mantBits h) g l (eqb-false g 1 e) ∙ sym (bitsN-cat (smallBits (mantBits h) g) (largeBits (mantBits h) g) (tag (smallBits (mantBits h) g)) a)
+
+pub word-width : (h g : ℕ) (c : Code) → 8 ≤ h → h ≤ 19 → codeBits (mantBits h) g c ≤ 32
+word-width h g c low high =
+    let b = mant-bits h low high in
+    go c (b .1) (small-width (mantBits h) g (b .0) (b .1) .1) (large-width (mantBits h) g (b .0) (b .1) .1)
+  where
+    either : (m s l : ℕ) (t : Bool) → m ≤ 16 → s ≤ 16 → l ≤ 16 → cond t m (s + l) ≤ 32
+    either m s l true p q r = omega arith
+    either m s l false p q r = omega arith
+
+    go : (c : Code) → mantBits h ≤ 16 → smallBits (mantBits h) g ≤ 16 → largeBits (mantBits h) g ≤ 16 → codeBits (mantBits h) g c ≤ 32
+    go (Code.Small u) p q r = omega arith
+    go (Code.Large u) p q r = either (mantBits h) (smallBits (mantBits h) g) (largeBits (mantBits h) g) (eqb g 1) p q r
 
 -- two writes, one behind the other
 pub both-put : (s t u : List ℕ) (at n n′ : ℕ) (q r : BitPos) (a b : List Bool) → length a ≡ n → length b ≡ n′ → at + (n + n′) ≤ 8 * length s
@@ -93,18 +120,3 @@ own p h =
     let b : p .byte ≡ bitAt p / 8 = omega arith in
     let c : p .bit ≡ bitAt p % 8 = omega arith in
     λ i. record { byte = b i; bit = c i }
-
--- ---- a code's bits, in the code's own terms
-module _ (h g m : ℕ) (code : Code) (e : m ≡ mantBits h) where
-  pub small-is : (w s : ℕ) → w ≡ smallBits m g → code ≡ Code.Small s → Accepted h g code
-      → (codeBits (mantBits h) g code ≡ w) × (coded (mantBits h) g .enc code ≡ bitsN w s)
-  small-is w s f k a =
-      let b = subst (Accepted h g) k a in
-      rw (k, f, e) (refl, bits-small (mantBits h) g s (b .0) (b .2))
-
-  pub one-is : (l : ℕ) → g ≡ 1 → code ≡ Code.Large l → (codeBits (mantBits h) g code ≡ m) × (coded (mantBits h) g .enc code ≡ bitsN m l)
-  one-is l f k = rw (k, e) (rw (eq-eqb g 1 f) refl, bits-one (mantBits h) g l f)
-
-  pub large-is : (w w′ l : ℕ) → w ≡ smallBits m g → w′ ≡ largeBits m g → (g ≡ 1 → ⊥) → code ≡ Code.Large l
-      → (codeBits (mantBits h) g code ≡ w + w′) × (coded (mantBits h) g .enc code ≡ bitsN w (tag w) ++ bitsN w′ l)
-  large-is w w′ l f f′ n k = rw (k, f, f′, e) (rw (ne-eqb g 1 n) refl, bits-large (mantBits h) g l n)

@@ -11,15 +11,15 @@ ghost use Rattle.planner.specs.Choice.{choiceBits, Choice};
 ghost use Rattle.planner.specs.Work.{Within};
 ghost use Rattle.bits.specs.Bits.{bitsN, bitAt, posOf, bytesWith};
 ghost use Rattle.tables.specs.Tables.{mantBits, vqBits};
-ghost use Rattle.levels.specs.Codes.{codeBits, coded, six, Accepted};
+ghost use Rattle.levels.specs.Codes.{six};
 ghost use Rattle.books.specs.Books.{searchOf};
+ghost use Rattle.books.specs.Work.{FractionsLoaded};
 ghost use Rattle.quantiser.specs.Quantise.{codesBits};
 ghost use Rattle.field.specs.Field.{partOf, gainCode, packed, groupWords, gainWords, item, itemBits, binOf, headOr1, binsOf, field};
 ghost use Rattle.writer.specs.Written.{codesOf, itemOf, itemsFrom, channelOf, channelWrite, channelWritten};
 use bits::BitPos;
 use bits::BitWrite;
 use gains::Coding;
-use levels::Code;
 use planner::Plan;
 
 // The low n bits of v, where there is room for them; the position behind them.
@@ -35,28 +35,6 @@ fn put(out: &mut [u8], p: BitPos, v: u32, n: u32) -> BitPos
     }
 }
 
-// A code, where there is room for it; the position behind it.
-fn write_code(out: &mut [u8], p: BitPos, hebap: u8, gk: u8, code: Code) -> BitPos
-    requires { ⌜ (8 ≤ hebap) × (hebap ≤ 19) ⌝ }
-    requires { ⌜ Accepted hebap gk code ⌝ }
-    requires { ⌜ bitAt p + codeBits (mantBits hebap) gk code ≤ 8 * length (now out) ⌝ }
-    ensures { λ r. ⌜ r ≡ posOf (bitAt p + codeBits (mantBits hebap) gk code) ⌝ }
-    ensures { λ r. ⌜ now (out .exit) ≡ bytesWith (now (out .entry)) (bitAt p) (coded (mantBits hebap) gk .enc code) ⌝ }
-{
-    let m = levels::mant(hebap);
-    match code {
-        Code::Small(s) => put(out, p, s, levels::small_bits(m, gk)),
-        Code::Large(l) => {
-            if gk == 1 {
-                return put(out, p, l, m);
-            }
-            let w = levels::small_bits(m, gk);
-            let q = put(&mut *out, p, levels::two_to(w - 1), w);
-            put(out, q, l, levels::large_bits(m, gk))
-        }
-    }
-}
-
 // The quantiser's codes for the six components of a bin, where there is room for them; the position behind them.
 fn write_six(out: &mut [u8], p: BitPos, hebap: u8, gk: u8, x: &[f32]) -> BitPos
     requires { ⌜ (8 ≤ hebap) × (hebap ≤ 19) ⌝ }
@@ -65,12 +43,12 @@ fn write_six(out: &mut [u8], p: BitPos, hebap: u8, gk: u8, x: &[f32]) -> BitPos
     ensures { λ r. ⌜ r ≡ posOf (bitAt p + codesBits hebap gk (now (x .entry))) ⌝ }
     ensures { λ r. ⌜ now (out .exit) ≡ bytesWith (now (out .entry)) (bitAt p) (six (mantBits hebap) gk .enc (codesOf hebap gk (now (x .entry)))) ⌝ }
 {
+    let st = quantiser::steps_of(hebap, gk);
     let mut q = p;
     let mut j: usize = 0;
     while j < x.len() {
-        let picked = quantiser::pick(hebap, gk, x[j]);
-        let code = picked.code;
-        q = write_code(&mut *out, q, hebap, gk, code);
+        let w = quantiser::word(st, hebap, gk, x[j]);
+        q = put(&mut *out, q, w.bits, w.width);
         j += 1;
     }
     q
@@ -148,16 +126,15 @@ fn write_group_words(out: &mut [u8], p: BitPos, gains: &[u8]) -> BitPos
 }
 
 // The index that the search picks for a bin, where there is room for it; the position behind it.
-fn write_index(out: &mut [u8], p: BitPos, hebap: u8, x: &[f32], room: &mut [i16]) -> BitPos
+fn write_index(out: &mut [u8], p: BitPos, hebap: u8, x: &[f32], loaded: &[u32]) -> BitPos
     requires { ⌜ (1 ≤ hebap) × (hebap ≤ 7) ⌝ }
     requires { ⌜ length (now x) ≡ 6 ⌝ }
-    requires { ⌜ length (now room) ≡ 3072 ⌝ }
+    requires { ⌜ FractionsLoaded (now loaded) ⌝ }
     requires { ⌜ bitAt p + vqBits hebap ≤ 8 * length (now out) ⌝ }
     ensures { λ r. ⌜ r ≡ posOf (bitAt p + vqBits hebap) ⌝ }
     ensures { λ r. ⌜ now (out .exit) ≡ bytesWith (now (out .entry)) (bitAt p) (bitsN (vqBits hebap) (searchOf hebap (now (x .entry)))) ⌝ }
 {
-    let n = books::load_book(hebap, &mut *room);
-    let i = books::nearest(&*room, n, x);
+    let i = books::search_in(loaded, hebap, x);
     put(out, p, i as u32, tables::vq_bits(hebap) as u32)
 }
 
@@ -169,19 +146,19 @@ fn write_bin(
     hebap: u8,
     gk: u8,
     x: &[f32],
-    room: &mut [i16],
+    loaded: &[u32],
 ) -> BitPos
     requires { ⌜ hebap ≤ 19 ⌝ }
     requires { ⌜ p .bit < 8 ⌝ }
     requires { ⌜ length (now x) ≡ 6 ⌝ }
-    requires { ⌜ length (now room) ≡ 3072 ⌝ }
+    requires { ⌜ FractionsLoaded (now loaded) ⌝ }
     requires { ⌜ bitAt p + itemBits (binOf mode hebap gk) (itemOf (binOf mode hebap gk) (now x)) ≤ 8 * length (now out) ⌝ }
     ensures { λ r. ⌜ r ≡ posOf (bitAt p + itemBits (binOf mode hebap gk) (itemOf (binOf mode hebap gk) (now (x .entry)))) ⌝ }
     ensures { λ r. ⌜ now (out .exit) ≡ bytesWith (now (out .entry)) (bitAt p) (item (binOf mode hebap gk) .enc (itemOf (binOf mode hebap gk) (now (x .entry)))) ⌝ }
 {
     match gains::coding_of(mode, hebap) {
         Coding::Nothing => p,
-        Coding::Book => write_index(out, p, hebap, x, room),
+        Coding::Book => write_index(out, p, hebap, x, loaded),
         Coding::Fixed => write_six(out, p, hebap, 1, x),
         Coding::Adaptive => write_six(out, p, hebap, gk, x),
     }
@@ -233,11 +210,11 @@ fn write_bins(
     end: usize,
     x: &[f32],
     gains: &[u8],
-    room: &mut [i16],
+    loaded: &[u32],
 ) -> BitPos
     requires { ⌜ (start ≤ end) × (end ≤ 256) × (end ≤ length (now row)) × (6 * end ≤ length (now x)) ⌝ }
     requires { ⌜ someOver (unknownAt (now row)) start end ≡ false ⌝ }
-    requires { ⌜ length (now room) ≡ 3072 ⌝ }
+    requires { ⌜ FractionsLoaded (now loaded) ⌝ }
     requires { ⌜ p .bit < 8 ⌝ }
     requires { ⌜ (let bs = binsOf mode (partOf (now row) start end) (now gains) in bitAt p + sizes itemBits bs (itemsFrom bs (now x) start) ≤ 8 * length (now out)) ⌝ }
     ensures { λ r. ⌜ (let bs = binsOf mode (partOf (now (row .entry)) start end) (now (gains .entry)) in r ≡ posOf (bitAt p + sizes itemBits bs (itemsFrom bs (now (x .entry)) start))) ⌝ }
@@ -257,7 +234,7 @@ fn write_bins(
             hebap,
             gain_at(gains, n),
             &x[a..b],
-            &mut *room,
+            loaded,
         );
         n += gains_used(mode, hebap);
         bin += 1;
@@ -275,22 +252,22 @@ fn write_field(
     start: usize,
     end: usize,
     x: &[f32],
-    room: &mut [i16],
+    loaded: &[u32],
 ) -> BitPos
     requires { ⌜ Within (now row) start end (now x) ⌝ }
     requires { ⌜ (someOver (unknownAt (now row)) start end ≡ false) × (someOver (tooLargeAt (now row) (now x)) start end ≡ false) ⌝ }
     requires { ⌜ Choice mode (now gains) (now row) start end ⌝ }
-    requires { ⌜ length (now room) ≡ 3072 ⌝ }
+    requires { ⌜ FractionsLoaded (now loaded) ⌝ }
     requires { ⌜ bitAt p + choiceBits mode (now gains) (now row) (now x) start end ≤ 8 * length (now out) ⌝ }
     ensures { λ r. ⌜ r ≡ posOf (bitAt p + choiceBits mode (now (gains .entry)) (now (row .entry)) (now (x .entry)) start end) ⌝ }
     ensures { λ r. ⌜ now (out .exit) ≡ bytesWith (now (out .entry)) (bitAt p) (field (partOf (now (row .entry)) start end) .enc (channelOf (now (row .entry)) (now (x .entry)) start end mode (now (gains .entry)))) ⌝ }
 {
     let q = put(&mut *out, p, mode as u32, 2);
     let r = write_gains(&mut *out, q, mode, gains);
-    write_bins(out, r, mode, row, start, end, x, gains, room)
+    write_bins(out, r, mode, row, start, end, x, gains, loaded)
 }
 
-// The same; lends the room for the books.
+// The same; loads the books.
 fn write_choice(
     out: &mut [u8],
     p: BitPos,
@@ -308,8 +285,9 @@ fn write_choice(
     ensures { λ r. ⌜ r ≡ posOf (bitAt p + choiceBits mode (now (gains .entry)) (now (row .entry)) (now (x .entry)) start end) ⌝ }
     ensures { λ r. ⌜ now (out .exit) ≡ bytesWith (now (out .entry)) (bitAt p) (field (partOf (now (row .entry)) start end) .enc (channelOf (now (row .entry)) (now (x .entry)) start end mode (now (gains .entry)))) ⌝ }
 {
-    let mut room = [0i16; 3072];
-    write_field(out, p, mode, gains, row, start, end, x, &mut room)
+    let mut room = [0u32; 5736];
+    books::load_fractions(&mut room);
+    write_field(out, p, mode, gains, row, start, end, x, &room)
 }
 
 // The field of the plan goes to the output from the position on. Refuses with 1 to 5, then 6, then 7; a refusal leaves the output as it was.

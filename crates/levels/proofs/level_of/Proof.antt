@@ -1,92 +1,87 @@
 -- `levels::level_of` meets its contract. Assumes nothing.
-use Prim.Native.Nat.{_^_, _≤_, _<_}
 use mathlib.Core.Path.{ap, _∙_}
 use borrow.Author.Needs.{needs}
 use mir.Syntax.{w32}
-use Rattle.tables.proofs.Rules.{mant-bits}
+use mir.Val.{toZ, ofZ}
 use Rattle.levels.specs.declared.Level.{Level}
 use Rattle.levels.specs.Codes.{smallBits, largeBits}
-use Rattle.levels.specs.Value.{smallValue, largeValue, levelOf}
-use Rattle.levels.proofs.Signed.{back, passed-small, small-width, large-width, asked, small-fits}
+use Rattle.levels.specs.Value.{levelOf}
+use Rattle.levels.proofs.Signed.{back, in-float, passed-small, small-width, large-width, asked, small-fits}
+use Rattle.levels.proofs.Common.{small-is, large-is, small-value-by, large-value-by}
 use Rattle.levels.proofs.level_of.Statement.{statement}
 use Rattle.levels.proofs.level_of.Tie as tie
-
-three : (c : tie.After-mant) → 3 ≤ c .mant .result
-three c = rw (c .mant .ensures) (mant-bits (c .before .args .hebap) (c .before .pre .0 .0) (c .before .pre .0 .1) .0)
-
-mant-requires : tie.Need-mant-requires
-mant-requires c κs = search needs
 
 enum-known-code : tie.Need-enum-known-code
 enum-known-code c = search needs
 
-small-bits-requires : tie.Need-small-bits-requires
-small-bits-requires c κs = three (c .before .before .before)
-
-small-asked : (c : tie.After-small-bits) → (1 ≤ c .small-bits .result) × (c .small-bits .result ≤ 16) × (c .before .before .code .given .0 .0 < 2 ^ c .small-bits .result)
-small-asked c =
-    let d = c .before .before .before .before in
-    let s = d .before in
-    asked smallBits small-width (s .args .hebap) (s .args .gk) (d .mant .result) (c .small-bits .result) (c .before .before .code .given .0 .0) (s .pre .0)
-    (d .mant .ensures) (c .small-bits .ensures) (small-fits (s .args .hebap) (s .args .gk) _ _ (s .pre .1) (c .before .before .code .given .1))
-
 signed-code-requires : tie.Need-signed-code-requires
-signed-code-requires c κs = small-asked c
+signed-code-requires c κs =
+    let s = c .before .before .before in
+    let u = c .before .code .given in
+    asked smallBits small-width (s .args .hebap) (s .args .gk) (s .args .s .small) (u .0 .0) (s .pre .0) (small-is (s .args .hebap) (s .args .gk) (s .args .s) (s .pre .1 .0))
+    (small-fits (s .args .hebap) (s .args .gk) _ _ (s .pre .1 .1) (u .1))
 
-small-value-requires : tie.Need-small-value-requires
-small-value-requires c κs =
-    let k = c .signed-code in
-    (search needs, passed-small (c .before .small-bits .result) (c .before .before .before .code .given .0 .0) (k .result) (small-asked (c .before)) (k .ok) (k .ensures))
+int-to-float-t9 : tie.Need-int-to-float-t9
+int-to-float-t9 c =
+    let d = c .before .before in
+    let k = c .before .signed-code in
+    in-float (toZ w32 (ofZ w32 (k .result))) (passed-small (d .before .before .before .args .s .small) (d .before .code .given .0 .0) (k .result) (signed-code-requires d tt) (k .ok) (k .ensures))
 
 enum-known-code-2 : tie.Need-enum-known-code-2
 enum-known-code-2 c = search needs
 
-large-bits-requires : tie.Need-large-bits-requires
-large-bits-requires c κs = three (c .before .before .before)
-
-large-asked : (c : tie.After-large-bits) → (1 ≤ c .large-bits .result) × (c .large-bits .result ≤ 16) × (c .before .before .code2 .given .0 .0 < 2 ^ c .large-bits .result)
-large-asked c =
-    let d = c .before .before .before .before in
-    let s = d .before in
-    asked largeBits large-width (s .args .hebap) (s .args .gk) (d .mant .result) (c .large-bits .result) (c .before .before .code2 .given .0 .0) (s .pre .0)
-    (d .mant .ensures) (c .large-bits .ensures) (rw (c .before .before .code2 .given .1) at (s .pre .1))
-
 signed-code-requires-2 : tie.Need-signed-code-requires-2
-signed-code-requires-2 c κs = large-asked c
+signed-code-requires-2 c κs =
+    let s = c .before .before .before in
+    let u = c .before .code2 .given in
+    asked largeBits large-width (s .args .hebap) (s .args .gk) (s .args .s .large) (u .0 .0) (s .pre .0) (large-is (s .args .hebap) (s .args .gk) (s .args .s) (s .pre .1 .0))
+    (rw (u .1) at (s .pre .1 .1))
 
-large-value-requires : tie.Need-large-value-requires
-large-value-requires c κs =
-    let k = c .signed-code2 in
-    (search needs, passed-small (c .before .large-bits .result) (c .before .before .before .code2 .given .0 .0) (k .result) (large-asked (c .before)) (k .ok) (k .ensures))
+int-to-float-remap-by : tie.Need-int-to-float-remap-by
+int-to-float-remap-by c =
+    let d = c .before .before in
+    let k = c .before .signed-code2 in
+    in-float (toZ w32 (ofZ w32 (k .result))) (passed-small (d .before .before .before .args .s .large) (d .before .code2 .given .0 .0) (k .result) (signed-code-requires-2 d tt) (k .ok) (k .ensures))
+
+remap-by-requires : tie.Need-remap-by-requires
+remap-by-requires c κs = search needs
 
 returns : tie.Need-returns
 unfolding levelOf
 returns c =
-    let d = c .before .before .before .before .before .before in
-    let k = c .before .signed-code in
-    rw (c .before .before .before .before .code .given .1, ← d .mant .ensures, ← c .before .before .small-bits .ensures)
-    (ap Level.Small (c .small-value .ensures ∙ ap (smallValue (d .before .args .hebap)) (back w32 (k .result) (k .ok) (k .ensures))))
+    let d = c .before .before .before in
+    let s = d .before .before .before in
+    let u = d .before .code .given in
+    let k = c .before .before .signed-code in
+    let e = s .pre .1 .0 in
+    rw (u .1)
+    (ap Level.Small
+    (small-value-by (s .args .hebap) (s .args .gk) (s .args .s) e (s .pre .0 .0) (s .pre .0 .1) (u .0 .0) (toZ w32 (ofZ w32 (k .result)))
+    (back w32 (k .result) (k .ok) (k .ensures ∙ rw (small-is (s .args .hebap) (s .args .gk) (s .args .s) e)))))
 
 returns-2 : tie.Need-returns-2
 unfolding levelOf
 returns-2 c =
-    let d = c .before .before .before .before .before .before in
-    let k = c .before .signed-code2 in
-    rw (c .before .before .before .before .code2 .given .1, ← d .mant .ensures, ← c .before .before .large-bits .ensures)
-    (ap Level.Large (c .large-value .ensures ∙ ap (largeValue (d .before .args .hebap) (d .before .args .gk)) (back w32 (k .result) (k .ok) (k .ensures))))
+    let d = c .before .before .before .before in
+    let s = d .before .before .before in
+    let u = d .before .code2 .given in
+    let k = c .before .before .before .signed-code2 in
+    let e = s .pre .1 .0 in
+    rw (u .1)
+    (ap Level.Large
+    (c .remap-by .ensures ∙ large-value-by (s .args .hebap) (s .args .gk) (s .args .s) e (s .pre .0 .0) (s .pre .0 .1) (u .0 .0) (toZ w32 (ofZ w32 (k .result)))
+    (back w32 (k .result) (k .ok) (k .ensures ∙ rw (large-is (s .args .hebap) (s .args .gk) (s .args .s) e)))))
 
 pub level-of-spec : {M : Type 1} → statement M
 level-of-spec =
     tie.close
     (tie.spec
-    mant-requires
     enum-known-code
-    small-bits-requires
     signed-code-requires
-    small-value-requires
+    int-to-float-t9
     enum-known-code-2
-    large-bits-requires
     signed-code-requires-2
-    large-value-requires
+    int-to-float-remap-by
+    remap-by-requires
     returns
     returns-2)

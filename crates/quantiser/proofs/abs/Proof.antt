@@ -1,18 +1,28 @@
 -- `quantiser::abs` meets its contract. Assumes nothing.
-use mathlib.Core.Path.{sym, subst}
+use mathlib.Core.Logic.{inl, inr}
+use mathlib.Core.Path.{_∙_, sym, subst, ap}
 use lib.Dec.{T}
-use Rattle.quantiser.proofs.Floats.{abs-below, abs-zero, abs-other}
+use lib.Ieee.{Float, eq}
+use Rattle.levels.specs.Value.{f0}
+use Rattle.quantiser.proofs.Floats.{abs-below, abs-zero, abs-other, below-not-zero}
 use Rattle.quantiser.proofs.abs.Statement.{statement}
 use Rattle.quantiser.proofs.abs.Tie as tie
 
 returns : tie.Need-returns
-returns c = abs-below (c .before .args .x) (c .if1 .taken)
+returns c =
+    let x = c .before .before .args .x in
+    elim (c .before .if1 .came) [
+      | inl h ↦ absurd (below-not-zero x (h .0 .taken) (sym (ap (λ (y : Float). eq y f0) (h .1)) ∙ c .if2 .taken))
+      | inr h ↦ abs-zero x (subst T (sym (c .before .before .good .0 .1)) tt) (sym (ap (λ (y : Float). eq y f0) (h .1)) ∙ c .if2 .taken)
+    ]
 
 returns-2 : tie.Need-returns-2
-returns-2 c = abs-zero (c .before .before .args .x) (subst T (sym (c .before .before .good .0 .1)) tt) (c .if2 .taken)
-
-returns-3 : tie.Need-returns-3
-returns-3 c = abs-other (c .before .before .args .x) (c .before .if1 .left) (c .if2 .left)
+returns-2 c =
+    let x = c .before .before .args .x in
+    elim (c .before .if1 .came) [
+      | inl h ↦ h .1 ∙ abs-below x (h .0 .taken)
+      | inr h ↦ h .1 ∙ abs-other x (h .0 .left) (sym (ap (λ (y : Float). eq y f0) (h .1)) ∙ c .if2 .left)
+    ]
 
 pub abs-spec : {M : Type 1} → statement M
-abs-spec = tie.close (tie.spec returns returns-2 returns-3)
+abs-spec = tie.close (tie.spec returns returns-2)

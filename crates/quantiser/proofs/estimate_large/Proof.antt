@@ -1,7 +1,7 @@
 -- `quantiser::estimate_large` meets its contract. Assumes nothing.
 use Prim.Native.Nat.{ℕ, _-_, _^_, _<_}
 use mathlib.Core.Bool.{true, false}
-use mathlib.Core.Path.{_≡_}
+use mathlib.Core.Path.{_≡_, ap, _∙_}
 use native.Mathlib.Omega.{arith}
 use borrow.Author.Needs.{needs}
 use lib.Ieee.{Float, binary32, sub, div, le}
@@ -12,7 +12,9 @@ use mir.Val.{SFits}
 use mir.ValLaws.{toZ-ofZ}
 use Rattle.levels.specs.Value.{f0}
 use Rattle.quantiser.specs.Quantise.{clampZ, valueAt, slopeAt, estLarge}
+use Rattle.quantiser.specs.Work.{exponentOf}
 use Rattle.quantiser.specs.Round.{roundAway}
+use Rattle.quantiser.proofs.Fixed.{Fixed, fixed, unit-large}
 use Rattle.quantiser.proofs.Ints.{held, held-is, less-fits}
 use Rattle.quantiser.proofs.Signs.{round-small}
 use Rattle.quantiser.proofs.estimate_large.Statement.{statement}
@@ -32,34 +34,33 @@ module _ (h g n : ℕ) (x s v : Float) (e : s ≡ slopeAt h g n) where
 less-fits-rounded : (r : ℤ) (y : Float) → mag r < 2 ^ 63 → r ≡ roundAway y → SFits w64 (negsuc 0 +ℤ held r)
 less-fits-rounded r y f e = rw (held-is r f e, +ℤ-comm (negsuc 0) (roundAway y)) (less-fits (roundAway y) (let l = round-small y in omega arith))
 
-slope-requires : tie.Need-slope-requires
-slope-requires c κs = search needs
+parts : (s : tie.Start) → Fixed (s .args .hebap) (s .args .gk) (s .args .st)
+parts s = fixed (s .args .hebap) (s .args .gk) (s .args .st) (s .pre .0) (s .pre .1 .0)
 
-value-requires : tie.Need-value-requires
-value-requires c κs = search needs
+step-is : (s : tie.Start) → s .args .st .unit ≡ slopeAt (s .args .hebap) (s .args .gk) (exponentOf (s .args .hebap) (s .args .gk))
+step-is s = unit-large (s .args .hebap) (s .args .gk) (s .args .st) (parts s) (s .pre .1 .1)
 
 round-half-away-requires : tie.Need-round-half-away-requires
 round-half-away-requires c κs = search needs
 
 highest-requires : tie.Need-highest-requires
-highest-requires c κs = search needs
+highest-requires c κs = parts (c .before .before .before .before) .n-range .1
 
 clamp-requires : tie.Need-clamp-requires
 clamp-requires c κs = search needs
 
 returns : tie.Need-returns
 returns c =
-    let d = c .before .before .before in
-    let s = d .before .before .before in
     let r = c .before .before .round-half-away in
     let hi = c .before .highest in
+    let i = c .before .before .before .before .before in
+    let s = i .before in
+    let a = s .args in
+    let f = parts s in
     held-is (c .clamp .result) (c .clamp .ok)
-    (above (s .args .hebap) (s .args .gk) (s .args .n) (s .args .x) (d .before .before .slope .result) (d .value .result) (d .before .before .slope .ensures)
-    (held (r .result)) (held (hi .result)) (c .clamp .result) (d .before .if1 .taken) (d .value .ensures)
-    (held-is (r .result) (r .ok) (r .ensures)) (held-is (hi .result) (hi .ok) (hi .ensures)) (c .clamp .ensures))
-
-value-requires-2 : tie.Need-value-requires-2
-value-requires-2 c κs = search needs
+    (above (a .hebap) (a .gk) (exponentOf (a .hebap) (a .gk)) (a .x) (a .st .unit) (a .st .zero) (step-is s)
+    (held (r .result)) (held (hi .result)) (c .clamp .result) (i .if1 .taken) (f .zero-is)
+    (held-is (r .result) (r .ok) (r .ensures)) (held-is (hi .result) (hi .ok) (hi .ensures ∙ ap (λ (n : ℕ). pos (2 ^ n - 1)) (f .n-is))) (c .clamp .ensures))
 
 round-half-away-requires-2 : tie.Need-round-half-away-requires-2
 round-half-away-requires-2 c κs = search needs
@@ -68,34 +69,33 @@ add-clamp : tie.Need-add-clamp
 add-clamp c = let r = c .round-half-away2 in less-fits-rounded (r .result) _ (r .ok) (r .ensures)
 
 lowest-requires : tie.Need-lowest-requires
-lowest-requires c κs = search needs
+lowest-requires c κs = parts (c .before .before .before .before) .n-range .1
 
 clamp-requires-2 : tie.Need-clamp-requires-2
 clamp-requires-2 c κs = search needs
 
 returns-2 : tie.Need-returns-2
 returns-2 c =
-    let d = c .before .before .before in
-    let s = d .before .before .before in
     let r = c .before .before .round-half-away2 in
     let lo = c .before .lowest in
+    let i = c .before .before .before .before .before in
+    let s = i .before in
+    let a = s .args in
+    let f = parts s in
     held-is (c .clamp2 .result) (c .clamp2 .ok)
-    (below (s .args .hebap) (s .args .gk) (s .args .n) (s .args .x) (d .before .before .slope .result) (d .value2 .result) (d .before .before .slope .ensures)
-    (held (r .result)) (held (negsuc 0 +ℤ held (r .result))) (held (lo .result)) (c .clamp2 .result) (d .before .if1 .left) (d .value2 .ensures)
+    (below (a .hebap) (a .gk) (exponentOf (a .hebap) (a .gk)) (a .x) (a .st .unit) (a .st .below) (step-is s)
+    (held (r .result)) (held (negsuc 0 +ℤ held (r .result))) (held (lo .result)) (c .clamp2 .result) (i .if1 .left) (f .below-is)
     (held-is (r .result) (r .ok) (r .ensures)) (toZ-ofZ w64 (negsuc 0 +ℤ held (r .result)) (less-fits-rounded (r .result) _ (r .ok) (r .ensures)))
-    (held-is (lo .result) (lo .ok) (lo .ensures)) (c .clamp2 .ensures))
+    (held-is (lo .result) (lo .ok) (lo .ensures ∙ ap (λ (n : ℕ). negℤ (pos (2 ^ n))) (f .n-is))) (c .clamp2 .ensures))
 
 pub estimate-large-spec : {M : Type 1} → statement M
 estimate-large-spec =
     tie.close
     (tie.spec
-    slope-requires
-    value-requires
     round-half-away-requires
     highest-requires
     clamp-requires
     returns
-    value-requires-2
     round-half-away-requires-2
     add-clamp
     lowest-requires

@@ -5,11 +5,16 @@ use mathlib.Core.Path.{_≡_}
 use borrow.Author.Needs.{needs}
 use mir.Syntax.{w64}
 use mir.ValLaws.{toZ-ofZ}
-use Rattle.quantiser.specs.Quantise.{clampZ}
+use Rattle.quantiser.specs.Quantise.{clampZ, valueAt}
+use Rattle.quantiser.specs.Work.{exponentOf}
+use Rattle.quantiser.proofs.Fixed.{Fixed, fixed}
 use Rattle.quantiser.proofs.Ints.{held, held-is, clamp-small}
 use Rattle.quantiser.proofs.Probing.{probed-is}
 use Rattle.quantiser.proofs.probe.Statement.{statement}
 use Rattle.quantiser.proofs.probe.Tie as tie
+
+parts : (s : tie.Start) → Fixed (s .args .hebap) (s .args .gk) (s .args .st)
+parts s = fixed (s .args .hebap) (s .args .gk) (s .args .st) (s .pre .0) (s .pre .1 .0)
 
 k-is : (c : tie.After-clamp) → held (c .clamp .result) ≡ clampZ (c .before .args .lo) (c .before .args .hi) (c .before .args .z)
 k-is c =
@@ -17,30 +22,36 @@ k-is c =
     held-is (c .clamp .result) (c .clamp .ok)
     (rw (toZ-ofZ w64 (s .args .lo) (s .fits .lo), toZ-ofZ w64 (s .args .hi) (s .fits .hi), toZ-ofZ w64 (s .args .z) (s .fits .z)) at (c .clamp .ensures))
 
+value-is : (c : tie.After-value) → let a = c .before .before .args in c .value .result ≡ valueAt (a .hebap) (a .gk) (exponentOf (a .hebap) (a .gk)) (held (c .before .clamp .result))
+value-is c = rw (parts (c .before .before) .n-is) at (c .value .ensures)
+
 clamp-requires : tie.Need-clamp-requires
 clamp-requires c κs = search needs
 
 value-requires : tie.Need-value-requires
 value-requires c κs =
     let s = c .before in
-    (s .pre .0, (rw (k-is c) (clamp-small (s .args .lo) (s .args .hi) (2 ^ 24) (s .pre .1 .1 .0) (s .pre .1 .1 .1) (s .args .z)), s .pre .1 .0))
+    let f = parts s in
+    (s .pre .0, ((f .remap-is, f .part-is), (rw (k-is c) (clamp-small (s .args .lo) (s .args .hi) (2 ^ 24) (s .pre .1 .1 .0) (s .pre .1 .1 .1) (s .args .z)), f .n-range)))
 
 abs-requires : tie.Need-abs-requires
 abs-requires c κs = search needs
 
 returns : tie.Need-returns
 returns c =
-    let d = c .before .before .before .before in
+    let v = c .before .before .before in
+    let d = v .before in
     let a = d .before .args in
-    probed-is (a .hebap) (a .gk) (a .n) (a .lo) (a .hi) (a .x) (a .z) (held (d .clamp .result)) (c .before .before .before .value .result) (c .before .before .abs .result) (a .best) true
-    (k-is d) (c .before .before .before .value .ensures) (c .before .before .abs .ensures) (c .if1 .taken)
+    probed-is (a .hebap) (a .gk) (exponentOf (a .hebap) (a .gk)) (a .lo) (a .hi) (a .x) (a .z) (held (d .clamp .result)) (v .value .result) (c .before .before .abs .result) (a .best) true
+    (k-is d) (value-is v) (c .before .before .abs .ensures) (c .if1 .taken)
 
 returns-2 : tie.Need-returns-2
 returns-2 c =
-    let d = c .before .before .before .before in
+    let v = c .before .before .before in
+    let d = v .before in
     let a = d .before .args in
-    probed-is (a .hebap) (a .gk) (a .n) (a .lo) (a .hi) (a .x) (a .z) (held (d .clamp .result)) (c .before .before .before .value .result) (c .before .before .abs .result) (a .best) false
-    (k-is d) (c .before .before .before .value .ensures) (c .before .before .abs .ensures) (c .if1 .left)
+    probed-is (a .hebap) (a .gk) (exponentOf (a .hebap) (a .gk)) (a .lo) (a .hi) (a .x) (a .z) (held (d .clamp .result)) (v .value .result) (c .before .before .abs .result) (a .best) false
+    (k-is d) (value-is v) (c .before .before .abs .ensures) (c .if1 .left)
 
 pub probe-spec : {M : Type 1} → statement M
 probe-spec = tie.close (tie.spec clamp-requires value-requires abs-requires returns returns-2)

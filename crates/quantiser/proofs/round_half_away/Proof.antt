@@ -1,57 +1,85 @@
 -- `quantiser::round_half_away` meets its contract. Assumes nothing.
-use Prim.Native.Nat.{_≤_}
-use mathlib.Core.Path.{sym, ap, _∙_}
+use Prim.Native.Nat.{ℕ, min, _≤_}
+use mathlib.Core.Bool.{true, false, true≢false}
+use mathlib.Core.Logic.{inl, inr}
+use mathlib.Core.Path.{_≡_, sym, ap, subst, _∙_}
 use native.Mathlib.Omega.{arith}
 use borrow.Author.Needs.{needs}
-use lib.Ieee.{ofBits}
+use lib.Dec.{T}
+use lib.Ieee.{Float, ofBits, neg, lt}
 use lib.IntN.{pos}
+use Rattle.levels.specs.Value.{f0}
+use Rattle.quantiser.specs.Round.{roundMag, roundAway}
 use Rattle.quantiser.proofs.Ints.{cast-is, minus-fits, minus-back}
 use Rattle.quantiser.proofs.Signs.{mag-le, mag-neg, neg-above, above-round, below-round, level-round}
 use Rattle.quantiser.proofs.round_half_away.Statement.{statement}
 use Rattle.quantiser.proofs.round_half_away.Tie as tie
 
-small : (c : tie.After-magnitude2) → c .magnitude2 .result ≤ 2147483648
-small c = rw (c .magnitude2 .ensures) (mag-le _)
+-- the size: -x for an x below 0, else x
+size-below : (c : tie.Joined1) → lt (c .before .args .x) f0 ≡ true → c .if1 .a ≡ neg (c .before .args .x)
+size-below c t =
+    elim (c .if1 .came) [
+      | inl h ↦ h .1
+      | inr h ↦ absurd (true≢false (sym t ∙ h .0 .left))
+    ]
+
+size-above : (c : tie.Joined1) → lt (c .before .args .x) f0 ≡ false → c .if1 .a ≡ c .before .args .x
+size-above c t =
+    elim (c .if1 .came) [
+      | inl h ↦ absurd (true≢false (sym (h .0 .taken) ∙ t))
+      | inr h ↦ h .1
+    ]
+
+small : (c : tie.After-magnitude) → c .magnitude .result ≤ 2147483648
+small c = rw (c .magnitude .ensures) (mag-le _)
 
 magnitude-requires : tie.Need-magnitude-requires
 magnitude-requires c κs = search needs
 
 cast-result : tie.Need-cast-result
-cast-result c = search needs
+cast-result c = record { sfits = omega (arith, small (c .before)) }
+
+sub-result : tie.Need-sub-result
+sub-result c = minus-fits (c .before .magnitude .result) (omega (arith, small (c .before)))
+
+cast-result-2 : tie.Need-cast-result-2
+cast-result-2 c = search needs
 
 returns : tie.Need-returns
 unfolding ofBits
 returns c =
-    let m = c .before .magnitude .ensures in
-    let h = c .if2 .taken in
-    cast-is (c .before .magnitude .result) (omega arith) (omega arith) ∙ sym (above-round (c .before .before .before .args .x) (c .before .before .if1 .taken))
+    let m = c .before .magnitude in
+    let j = c .before .before .before in
+    let x = j .before .args .x in
+    minus-back (m .result) (omega (arith, small (c .before))) (m .ensures ∙ ap roundMag (size-below j (c .if3 .taken)) ∙ mag-neg x)
+    ∙ sym (below-round x (c .if3 .taken))
+
+-- what x rounds to, where x is above 0
+rounds : (c : tie.Else3) → roundAway (c .before .before .before .before .args .x) ≡ pos (min (c .before .magnitude .result) 2147483647)
+unfolding ofBits
+rounds c =
+    let j = c .before .before .before in
+    let x = j .before .args .x in
+    let e = size-above j (c .if3 .left) in
+    above-round x (ap (λ (y : Float). lt f0 y) (sym e) ∙ c .before .before .if2 .taken)
+    ∙ ap (λ (n : ℕ). pos (min n 2147483647)) (sym (c .before .magnitude .ensures ∙ ap roundMag e))
 
 returns-2 : tie.Need-returns-2
-unfolding ofBits
 returns-2 c =
-    let m = c .before .magnitude .ensures in
-    let h = c .if2 .left in
-    ap pos (omega arith) ∙ sym (above-round (c .before .before .before .args .x) (c .before .before .if1 .taken))
-
-magnitude-requires-2 : tie.Need-magnitude-requires-2
-unfolding ofBits
-magnitude-requires-2 c κs = neg-above (c .before .before .args .x) (c .if3 .taken)
-
-cast-result-2 : tie.Need-cast-result-2
-cast-result-2 c = record { sfits = omega (arith, small c) }
-
-sub-result : tie.Need-sub-result
-sub-result c = minus-fits (c .magnitude2 .result) (omega (arith, small c))
+    let h = c .if4 .taken in
+    cast-is (c .before .before .magnitude .result) (omega arith) (omega arith) ∙ sym (rounds (c .before))
 
 returns-3 : tie.Need-returns-3
-unfolding ofBits
-returns-3 c =
-    let x = c .before .before .before .args .x in
-    minus-back (c .magnitude2 .result) (omega (arith, small c)) (c .magnitude2 .ensures ∙ mag-neg x) ∙ sym (below-round x (c .before .if3 .taken))
+returns-3 c = let h = c .if4 .left in let l = small (c .before .before) in ap pos (omega arith) ∙ sym (rounds (c .before))
 
 returns-4 : tie.Need-returns-4
 unfolding ofBits
-returns-4 c = sym (level-round (c .before .before .args .x) (c .before .if1 .left) (c .if3 .left))
+returns-4 c =
+    let x = c .before .before .args .x in
+    elim (c .before .if1 .came) [
+      | inl h ↦ absurd (subst T (sym (ap (λ (y : Float). lt f0 y) (h .1)) ∙ c .if2 .left) (neg-above x (h .0 .taken)))
+      | inr h ↦ sym (level-round x (sym (ap (λ (y : Float). lt f0 y) (h .1)) ∙ c .if2 .left) (h .0 .left))
+    ]
 
 pub round-half-away-spec : {M : Type 1} → statement M
 round-half-away-spec =
@@ -59,10 +87,9 @@ round-half-away-spec =
     (tie.spec
     magnitude-requires
     cast-result
+    sub-result
+    cast-result-2
     returns
     returns-2
-    magnitude-requires-2
-    cast-result-2
-    sub-result
     returns-3
     returns-4)

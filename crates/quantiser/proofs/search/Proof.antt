@@ -8,6 +8,7 @@ use lib.Signed.{mag}
 use mir.Syntax.{w64}
 use mir.ValLaws.{toZ-ofZ}
 use Rattle.quantiser.specs.Quantise.{bestOf}
+use Rattle.quantiser.specs.Work.{exponentOf}
 use Rattle.quantiser.proofs.Ints.{held, held-is, less-fits, more-fits, clamp-small}
 use Rattle.quantiser.proofs.Probing.{best-is, best-keeps}
 use Rattle.quantiser.proofs.search.Statement.{statement}
@@ -19,21 +20,21 @@ est-is s = toZ-ofZ w64 (s .args .est) (s .fits .est)
 ends : (s : tie.Start) → (mag (held (s .args .lo)) < 2 ^ 24) × (mag (held (s .args .hi)) < 2 ^ 24)
 ends s = rw (toZ-ofZ w64 (s .args .lo) (s .fits .lo), toZ-ofZ w64 (s .args .hi) (s .fits .hi)) (s .pre .1 .1 .0, s .pre .1 .1 .1)
 
-small : (s : tie.Start) → mag (bestOf (s .args .hebap) (s .args .gk) (s .args .n) (s .args .lo) (s .args .hi) (s .args .x) (s .args .start) (s .args .est)) < 2 ^ 24
+small : (s : tie.Start) → mag (bestOf (s .args .hebap) (s .args .gk) (exponentOf (s .args .hebap) (s .args .gk)) (s .args .lo) (s .args .hi) (s .args .x) (s .args .start) (s .args .est)) < 2 ^ 24
 small s =
     let a = s .args in
     let p = s .pre .1 .1 in
-    best-keeps (a .hebap) (a .gk) (a .n) (a .lo) (a .hi) (a .x) (λ z. mag z < 2 ^ 24) (clamp-small (a .lo) (a .hi) (2 ^ 24) (p .0) (p .1)) (a .start) (a .est) (p .2)
+    best-keeps (a .hebap) (a .gk) (exponentOf (a .hebap) (a .gk)) (a .lo) (a .hi) (a .x) (λ z. mag z < 2 ^ 24) (clamp-small (a .lo) (a .hi) (2 ^ 24) (p .0) (p .1)) (a .start) (a .est) (p .2)
 
 best : (c : tie.After-probe3)
-    → let a = c .before .before .before .args in c .probe3 .result .k ≡ bestOf (a .hebap) (a .gk) (a .n) (a .lo) (a .hi) (a .x) (a .start) (a .est)
+    → let a = c .before .before .before .args in c .probe3 .result .k ≡ bestOf (a .hebap) (a .gk) (exponentOf (a .hebap) (a .gk)) (a .lo) (a .hi) (a .x) (a .start) (a .est)
 best c =
     let s = c .before .before .before in
     let a = s .args in
     let p = s .pre .1 .1 in
     let less : held (held (a .est) -ℤ pos 1) ≡ a .est -ℤ pos 1 = rw (est-is s) (toZ-ofZ w64 (a .est -ℤ pos 1) (less-fits (a .est) (p .3))) in
     let more : held (held (a .est) +ℤ pos 1) ≡ a .est +ℤ pos 1 = rw (est-is s) (toZ-ofZ w64 (a .est +ℤ pos 1) (more-fits (a .est) (p .3))) in
-    best-is (a .hebap) (a .gk) (a .n) (a .lo) (a .hi) (a .x) (a .start) (a .est)
+    best-is (a .hebap) (a .gk) (exponentOf (a .hebap) (a .gk)) (a .lo) (a .hi) (a .x) (a .start) (a .est)
     (held (a .lo)) (held (a .hi)) (held (a .start)) (held (held (a .est) -ℤ pos 1)) (held (a .est)) (held (held (a .est) +ℤ pos 1))
     (c .before .before .probe .result) (c .before .probe2 .result) (c .probe3 .result)
     (toZ-ofZ w64 (a .lo) (s .fits .lo)) (toZ-ofZ w64 (a .hi) (s .fits .hi)) (toZ-ofZ w64 (a .start) (s .fits .start)) less (est-is s) more

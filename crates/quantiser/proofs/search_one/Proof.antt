@@ -1,43 +1,88 @@
 -- `quantiser::search_one` meets its contract. Assumes nothing.
-use Prim.Native.Nat.{_^_}
+use Prim.Native.Nat.{ℕ, _-_, _^_}
+use mathlib.Core.Bool.{true, false, cond}
+use mathlib.Core.Logic.{_⊎_, inl, inr}
+use mathlib.Core.Path.{_≡_, ap, _∙_}
 use borrow.Author.Needs.{needs}
 use lib.Dec.{lit<}
-use Rattle.quantiser.specs.Quantise.{bestOne}
+use lib.Ieee.{Float, binary32, div, lt}
+use lib.IntN.{ℤ, pos, negℤ}
+use mir.Syntax.{w64}
+use mir.Val.{toZ}
+use Rattle.tables.specs.Tables.{mantBits}
+use Rattle.levels.specs.Value.{f0, f1, power, gaqRemap}
+use Rattle.quantiser.specs.Quantise.{estOne, bestOne}
+use Rattle.quantiser.specs.Round.{roundAway}
 use Rattle.quantiser.proofs.Bounds.{est-one-small}
-use Rattle.quantiser.proofs.Ints.{held-is, held-under, held-24, opposite-under, top-under}
+use Rattle.quantiser.proofs.Fixed.{Fixed, fixed}
+use Rattle.quantiser.proofs.Ints.{held, held-is, held-24, opposite-under, top-under}
+use Rattle.levels.proofs.Common.{chosen}
 use Rattle.quantiser.proofs.search_one.Statement.{statement}
 use Rattle.quantiser.proofs.search_one.Tie as tie
 
-estimate-one-requires : tie.Need-estimate-one-requires
-estimate-one-requires c κs = search needs
+est-one : (h n : ℕ) (x unit : Float) (r : ℤ) → unit ≡ gaqRemap h 1 (div binary32 f1 (power n))
+    → ((lt f0 unit ≡ true) × (r ≡ roundAway (div binary32 x unit))) ⊎ ((lt f0 unit ≡ false) × (r ≡ pos 0)) → r ≡ estOne h n x
+unfolding estOne
+est-one h n x unit r e c = rw (← e) (chosen (λ t. cond t (roundAway (div binary32 x unit)) (pos 0)) (lt f0 unit) r c)
+
+parts : (s : tie.Start) → Fixed (s .args .hebap) 1 (s .args .st)
+parts s = fixed (s .args .hebap) 1 (s .args .st) (s .pre .0) (s .pre .1)
+
+est-is : (c : tie.Joined1) → let a = c .before .before .args in toZ w64 (c .if1 .est) ≡ estOne (a .hebap) (mantBits (a .hebap) - 1) (a .x)
+est-is c =
+    let s = c .before .before in
+    let a = s .args in
+    est-one (a .hebap) (mantBits (a .hebap) - 1) (a .x) (a .st .unit) (toZ w64 (c .if1 .est)) (parts s .unit-is)
+    (elim (c .if1 .came) [
+      | inl h ↦ inl (h .0 .taken, ap (toZ w64) (h .3) ∙ held-is (h .2 .result) (h .2 .ok) (h .2 .ensures))
+      | inr h ↦ inr (h .0 .left, ap (toZ w64) (h .1))
+    ])
+
+n-is : (c : tie.Joined1) → c .before .before .args .st .n ≡ mantBits (c .before .before .args .hebap) - 1
+n-is c = parts (c .before .before) .n-is
+
+lo-is : (c : tie.After-opposite) → held (c .opposite .result) ≡ negℤ (pos (2 ^ (mantBits (c .before .before .before .args .hebap) - 1) - 1))
+lo-is c = held-is (c .opposite .result) (c .opposite .ok) (c .opposite .ensures ∙ ap (λ (n : ℕ). negℤ (pos (2 ^ n - 1))) (n-is (c .before)))
+
+hi-is : (c : tie.After-highest) → held (c .highest .result) ≡ pos (2 ^ (mantBits (c .before .before .before .before .args .hebap) - 1) - 1)
+hi-is c = held-is (c .highest .result) (c .highest .ok) (c .highest .ensures ∙ ap (λ (n : ℕ). pos (2 ^ n - 1)) (n-is (c .before .before)))
+
+round-half-away-requires : tie.Need-round-half-away-requires
+round-half-away-requires c κs = search needs
 
 opposite-requires : tie.Need-opposite-requires
-opposite-requires c κs = search needs
+opposite-requires c κs = parts (c .before .before) .n-range .1
 
 highest-requires : tie.Need-highest-requires
-highest-requires c κs = search needs
+highest-requires c κs = parts (c .before .before .before) .n-range .1
 
 search-requires : tie.Need-search-requires
 search-requires c κs =
-    let s = c .before .before .before in
-    let n = s .args .n in
-    let n16 = s .pre .1 in
+    let j = c .before .before in
+    let s = j .before .before in
+    let n = s .args .st .n in
+    let n16 = parts s .n-range .1 in
     let lo = c .before .opposite in
-    let hi = c .highest in
-    let e = c .before .before .estimate-one in
-    let est = held-under (e .result) (2 ^ 40) (e .ok) (e .ensures) (est-one-small (s .args .hebap) n (s .args .x)) in
-    (s .pre .0, (n16, (held-24 n (lo .result) n16 (lo .ok) (lo .ensures) (opposite-under n), held-24 n (hi .result) n16 (hi .ok) (hi .ensures) (top-under n), lit< tt, est)))
+    let hi = c .highest in (
+      s .pre .0,
+      (
+        s .pre .1,
+        (
+          held-24 n (lo .result) n16 (lo .ok) (lo .ensures) (opposite-under n),
+          held-24 n (hi .result) n16 (hi .ok) (hi .ensures) (top-under n),
+          lit< tt,
+          rw (est-is j) (est-one-small (s .args .hebap) (mantBits (s .args .hebap) - 1) (s .args .x)),
+        ),
+      ),
+    )
 
 returns : tie.Need-returns
 unfolding bestOne
 returns c =
-    let e = c .before .before .before .estimate-one in
-    let lo = c .before .before .opposite in
-    let hi = c .before .highest in
-    held-is (c .search .result) (c .search .ok)
-    (rw (held-is (e .result) (e .ok) (e .ensures), held-is (lo .result) (lo .ok) (lo .ensures), held-is (hi .result) (hi .ok) (hi .ensures)) at (c .search .ensures))
+    let d = c .before in
+    held-is (c .search .result) (c .search .ok) (rw (est-is (d .before .before), lo-is (d .before), hi-is d) at (c .search .ensures))
 
 pub search-one-spec : {M : Type 1} → statement M
 search-one-spec =
     tie.close
-    (tie.spec estimate-one-requires opposite-requires highest-requires search-requires returns)
+    (tie.spec round-half-away-requires opposite-requires highest-requires search-requires returns)

@@ -1,13 +1,13 @@
 -- `quantiser::small_level` meets its contract. Assumes nothing.
-use mathlib.Core.Path.{_∙_}
+use mathlib.Core.Path.{_∙_, ap}
 use borrow.Author.Needs.{needs}
+use lib.Ieee.{Float, binary32, mul}
 use Rattle.quantiser.specs.Quantise.{smallOf}
+use Rattle.quantiser.specs.Round.{roundAway}
+use Rattle.quantiser.proofs.Fixed.{fixed}
 use Rattle.quantiser.proofs.Ints.{held-is}
 use Rattle.quantiser.proofs.small_level.Statement.{statement}
 use Rattle.quantiser.proofs.small_level.Tie as tie
-
-scale-requires : tie.Need-scale-requires
-scale-requires c κs = search needs
 
 round-half-away-requires : tie.Need-round-half-away-requires
 round-half-away-requires c κs = search needs
@@ -16,7 +16,9 @@ returns : tie.Need-returns
 unfolding smallOf
 returns c =
     let r = c .round-half-away in
-    held-is (r .result) (r .ok) (r .ensures ∙ rw (c .before .scale .ensures))
+    let s = c .before .before in
+    let f = fixed (s .args .hebap) (s .args .gk) (s .args .st) (s .pre .0) (s .pre .1) in
+    held-is (r .result) (r .ok) (r .ensures ∙ ap (λ (w : Float). roundAway (mul binary32 (s .args .x) w)) (f .whole-is))
 
 pub small-level-spec : {M : Type 1} → statement M
-small-level-spec = tie.close (tie.spec scale-requires round-half-away-requires returns)
+small-level-spec = tie.close (tie.spec round-half-away-requires returns)

@@ -1,36 +1,43 @@
 -- `quantiser::value` meets its contract. Assumes nothing.
 use Prim.Native.Nat.{_<_, _^_}
-use mathlib.Core.Path.{ap, _∙_}
+use mathlib.Core.Path.{_≡_, ap, _∙_}
 use borrow.Author.Needs.{needs}
+use lib.Ieee.{binary32, ofInt, mul}
+use lib.IntN.{ℤ}
 use lib.Signed.{mag}
-use mir.Syntax.{w64}
+use mir.Syntax.{w32, w64}
+use mir.Val.{toZ, ofZ}
 use mir.ValLaws.{toZ-ofZ}
-use Rattle.levels.specs.Value.{gaqRemap, divided}
-use Rattle.quantiser.specs.Quantise.{valueAt}
+use Rattle.levels.specs.Work.{remapBy}
+use Rattle.levels.proofs.Signed.{in-float}
+use Rattle.quantiser.proofs.Fixed.{value-is}
 use Rattle.quantiser.proofs.Ints.{held, narrow-fits, narrowed}
 use Rattle.quantiser.proofs.value.Statement.{statement}
 use Rattle.quantiser.proofs.value.Tie as tie
 
 small : (s : tie.Start) → mag (held (s .args .k)) < 2 ^ 24
-small s = rw (toZ-ofZ w64 (s .args .k) (s .fits .k)) (s .pre .1 .0)
+small s = rw (toZ-ofZ w64 (s .args .k) (s .fits .k)) (s .pre .1 .1 .0)
 
-cast-divided-code : tie.Need-cast-divided-code
-cast-divided-code c = narrow-fits (c .args .k) (small c)
+k-is : (s : tie.Start) → toZ w32 (ofZ w32 (held (s .args .k))) ≡ s .args .k
+k-is s = narrowed (s .args .k) (small s) ∙ toZ-ofZ w64 (s .args .k) (s .fits .k)
 
-divided-code-requires : tie.Need-divided-code-requires
-divided-code-requires c κs = (rw (narrowed (c .args .k) (small c)) (small c), c .pre .1 .1)
+cast-remap-by : tie.Need-cast-remap-by
+cast-remap-by c = narrow-fits (c .args .k) (small c)
 
-gaq-remap-requires : tie.Need-gaq-remap-requires
-gaq-remap-requires c κs = search needs
+int-to-float-remap-by : tie.Need-int-to-float-remap-by
+int-to-float-remap-by c = let s = c .before in rw (k-is s) (in-float (s .args .k) (s .pre .1 .1 .0))
+
+remap-by-requires : tie.Need-remap-by-requires
+remap-by-requires c κs = search needs
 
 returns : tie.Need-returns
-unfolding valueAt
 returns c =
     let s = c .before .before in
-    let k = s .args .k in
-    c .gaq-remap .ensures
-    ∙ ap (gaqRemap (s .args .hebap) (s .args .gk)) (c .before .divided-code .ensures ∙ ap (divided (s .args .n)) (narrowed k (small s) ∙ toZ-ofZ w64 k (s .fits .k)))
+    let a = s .args in
+    let p = s .pre .1 in
+    c .remap-by .ensures
+    ∙ ap (λ (k : ℤ). remapBy (a .remap) (mul binary32 (ofInt binary32 k) (a .part))) (k-is s)
+    ∙ value-is (a .hebap) (a .gk) (a .n) (a .remap) (a .part) (p .0 .0) (p .0 .1) (a .k) (p .1 .1 .0) (p .1 .1 .1)
 
 pub value-spec : {M : Type 1} → statement M
-value-spec =
-    tie.close (tie.spec cast-divided-code divided-code-requires gaq-remap-requires returns)
+value-spec = tie.close (tie.spec cast-remap-by int-to-float-remap-by remap-by-requires returns)

@@ -73,9 +73,9 @@ slice-aggregate-read-bins c = let g = c .before .before in let r = g .before .be
 
 read-bins-requires : tie.Need-read-bins-requires
 read-bins-requires c κs =
-    let g = c .before .before .before .before .before .before in
+    let g = c .before .before .before .before .before in
     let s = g .before .before .before .before .before .before .before .before .before .before .before .before in
-    (s .pre .1 .0, (s .pre .1 .1 .0, (gains g .inside, (s .pre .1 .1 .1 .1 .0 .1, s .pre .1 .1 .1 .1 .1))))
+    (s .pre .1 .0, (s .pre .1 .1 .0, (gains g .inside, s .pre .1 .1 .1 .1 .1)))
 
 enum-known-b : tie.Need-enum-known-b
 enum-known-b c = search needs
@@ -107,19 +107,19 @@ same-length-4 c = search needs
 same-length-5 : tie.Need-same-length-5
 same-length-5 c = search needs
 
-same-length-6 : tie.Need-same-length-6
-same-length-6 c = search needs
-
 returns-2 : tie.Need-returns-2
 returns-2 c =
-    let b = c .before .before .before .before .before .before .before .before .before in
-    let g = b .before .before .before .before .before .before .before in
+    let b = c .before .before .before .before .before .before .before .before in
+    let g = b .before .before .before .before .before .before in
     let r = g .before .before .before .before in
     let n = r .before .before in
     let s = n .before .before .before .before .before .before in
     let a = s .args in
     let e = bins-stop (a .mode) (partOf (now (a .row)) (a .start) (a .end)) (now (a .src)) (a .pos) (s .pre .1 .1 .1 .0) (s .pre .0) (n .count-active .result) (active n) _ (now (a .gains)) (r .read-gains .last .1 .1 .1 .1 .0) (gains g) (b .read-bins .result) _ (b .read-bins .ensures .0) (c .before .b .given .1) in
     rw e (refl, tt)
+
+same-length-6 : tie.Need-same-length-6
+same-length-6 c = search needs
 
 same-length-7 : tie.Need-same-length-7
 same-length-7 c = search needs
@@ -130,16 +130,10 @@ same-length-8 c = search needs
 same-length-9 : tie.Need-same-length-9
 same-length-9 c = search needs
 
-same-length-10 : tie.Need-same-length-10
-same-length-10 c = search needs
-
-same-length-11 : tie.Need-same-length-11
-same-length-11 c = search needs
-
 returns-3 : tie.Need-returns-3
 returns-3 c =
-    let b = c .before .before .before .before .before .before .before .before .before in
-    let g = b .before .before .before .before .before .before .before in
+    let b = c .before .before .before .before .before .before .before .before in
+    let g = b .before .before .before .before .before .before in
     let r = g .before .before .before .before in
     let n = r .before .before in
     let s = n .before .before .before .before .before .before in
@@ -165,11 +159,9 @@ read-behind-spec =
     same-length-3
     same-length-4
     same-length-5
-    same-length-6
     returns-2
+    same-length-6
     same-length-7
     same-length-8
     same-length-9
-    same-length-10
-    same-length-11
     returns-3)

@@ -33,7 +33,7 @@ enum-told-2 c = search needs
 
 read-index-requires : tie.Need-read-index-requires
 read-index-requires c κs =
-    let t = c .before .before .before .before in
+    let t = c .before .before .before in
     let k = t .before .before in
     let s = k .before .before .before .before in
     (known k Coding.Book (t .enum-told2 .given .1) .0, s .pre .1)
@@ -86,14 +86,14 @@ same-length-5 c = search needs
 same-length-6 : tie.Need-same-length-6
 same-length-6 c = search needs
 
-same-length-7 : tie.Need-same-length-7
-same-length-7 c = search needs
-
 returns-2 : tie.Need-returns-2
 returns-2 c =
-    let r = c .before .before .before .before .before .before in
-    let t = r .before .before .before .before .before in
+    let r = c .before .before .before .before .before in
+    let t = r .before .before .before .before in
     rw (known (t .before .before) Coding.Book (t .enum-told2 .given .1) .1) (r .read-index .ensures)
+
+same-length-7 : tie.Need-same-length-7
+same-length-7 c = search needs
 
 same-length-8 : tie.Need-same-length-8
 same-length-8 c = search needs
@@ -101,23 +101,20 @@ same-length-8 c = search needs
 same-length-9 : tie.Need-same-length-9
 same-length-9 c = search needs
 
-same-length-10 : tie.Need-same-length-10
-same-length-10 c = search needs
-
 returns-3 : tie.Need-returns-3
 returns-3 c =
     let r = c .before .before .before .before .before in
     let t = r .before .before .before .before in
     rw (known (t .before .before) Coding.Fixed (t .enum-told3 .given .1) .1) (r .read-codes .ensures)
 
+same-length-10 : tie.Need-same-length-10
+same-length-10 c = search needs
+
 same-length-11 : tie.Need-same-length-11
 same-length-11 c = search needs
 
 same-length-12 : tie.Need-same-length-12
 same-length-12 c = search needs
-
-same-length-13 : tie.Need-same-length-13
-same-length-13 c = search needs
 
 returns-4 : tie.Need-returns-4
 returns-4 c =
@@ -145,13 +142,12 @@ read-bin-spec =
     same-length-4
     same-length-5
     same-length-6
-    same-length-7
     returns-2
+    same-length-7
     same-length-8
     same-length-9
-    same-length-10
     returns-3
+    same-length-10
     same-length-11
     same-length-12
-    same-length-13
     returns-4)

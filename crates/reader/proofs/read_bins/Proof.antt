@@ -15,18 +15,18 @@ use Rattle.reader.proofs.read_bins.Statement.{statement}
 use Rattle.reader.proofs.read_bins.Tie as tie
 
 abbrev Inv-loop : tie.InvT-loop
-Inv-loop src mode row start end gains room₀ values₀ exact₀ indices₀ p₀ n₀ bin₀ room values exact indices p n bin =
-    (start ≤ bin) × (bin ≤ end) × (n ≤ bin) × (length room ≡ 3072) × (length values ≡ length values₀) × (length exact ≡ length exact₀) × (length indices ≡ length indices₀)
+Inv-loop src mode row start end gains loaded values₀ exact₀ indices₀ p₀ n₀ bin₀ values exact indices p n bin =
+    (start ≤ bin) × (bin ≤ end) × (n ≤ bin) × (length values ≡ length values₀) × (length exact ≡ length exact₀) × (length indices ≡ length indices₀)
     × SoFar mode row gains start end src (bitAt p₀) values₀ exact₀ indices₀ p n bin values exact indices
 
 abbrev μ-loop : tie.MeasureT-loop
-μ-loop src mode row start end gains room₀ values₀ exact₀ indices₀ p₀ n₀ bin₀ room values exact indices p n bin = end - bin
+μ-loop src mode row start end gains loaded values₀ exact₀ indices₀ p₀ n₀ bin₀ values exact indices p n bin = end - bin
 
 loop-holds : tie.Need-loop-holds Inv-loop μ-loop
 loop-holds c =
     let s = c .before .before .before .before .before in
     let a = s .args in
-    (omega arith, s .pre .0 .0, omega arith, s .pre .1 .1 .1 .0, refl, refl, refl, none-yet (a .mode) (now (a .row)) (now (a .gains)) (a .start) (a .end) (now (a .src)) (bitAt (a .pos)) (now (a .values)) (now (a .exact)) (now (a .indices)) (a .pos) refl (s .pre .1 .1 .0))
+    (omega arith, s .pre .0 .0, omega arith, refl, refl, refl, none-yet (a .mode) (now (a .row)) (now (a .gains)) (a .start) (a .end) (now (a .src)) (bitAt (a .pos)) (now (a .values)) (now (a .exact)) (now (a .indices)) (a .pos) refl (s .pre .1 .1 .0))
 
 shared-slice-read-hebap : tie.Need-shared-slice-read-hebap Inv-loop μ-loop
 shared-slice-read-hebap c = search needs
@@ -36,22 +36,18 @@ gain-at-requires c κs = search needs
 
 read-bin-requires : tie.Need-read-bin-requires Inv-loop μ-loop
 read-bin-requires c κs =
-    let l = c .before .before .before .before .before .before .before in
+    let l = c .before .before .before .before .before .before in
     let s = l .before .before .before .before .before .before in
     let a = s .args in (
       known-hebap (now (a .row)) (a .start) (a .end) (l .loop .bin) (s .pre .1 .0) (l .loop .inv .0) (omega arith),
-      (l .loop .inv .7 .inside, (l .loop .inv .3, (omega arith, omega arith, omega arith, omega arith))),
+      (l .loop .inv .6 .inside, (s .pre .1 .1 .1 .0, (omega arith, omega arith, omega arith, omega arith))),
     )
 
 enum-known-r : tie.Need-enum-known-r Inv-loop μ-loop
 enum-known-r c = search needs
 
 same-length : tie.Need-same-length Inv-loop μ-loop
-same-length c =
-    let m = c .before .before .before .before .before .before .before .before in
-    let l = m .before .before .before .before .before .before .before .before .before in
-    let s = l .before .before .before .before .before .before in
-    m .room .given ∙ l .loop .inv .3 ∙ sym (s .pre .1 .1 .1 .0)
+same-length c = search needs
 
 same-length-2 : tie.Need-same-length-2 Inv-loop μ-loop
 same-length-2 c = search needs
@@ -59,19 +55,16 @@ same-length-2 c = search needs
 same-length-3 : tie.Need-same-length-3 Inv-loop μ-loop
 same-length-3 c = search needs
 
-same-length-4 : tie.Need-same-length-4 Inv-loop μ-loop
-same-length-4 c = search needs
-
 returns : tie.Need-returns Inv-loop μ-loop
 returns c =
-    let r = c .before .before .before .before .before .before .before .before .before in
-    let g = r .before .before .before .before .before in
+    let r = c .before .before .before .before .before .before .before .before in
+    let g = r .before .before .before .before in
     let l = g .before .before .before in
     let s = l .before .before .before .before .before .before in
     let a = s .args in
     let h = getD (now (a .row)) (l .loop .bin) 0 in
     let G = item (binOf (a .mode) h (g .gain-at .result)) .dec (drop (bitAt (l .loop .p)) (bitsOf (now (a .src)))) in
-    rw (cut (l .loop .inv .7) h (g .gain-at .result) (omega arith) (s .pre .0 .2) refl (g .gain-at .ensures) _ G refl (sym (c .before .r .given .1) ∙ r .read-bin .ensures .0)) (refl, tt)
+    rw (cut (l .loop .inv .6) h (g .gain-at .result) (omega arith) (s .pre .0 .2) refl (g .gain-at .ensures) _ G refl (sym (c .before .r .given .1) ∙ r .read-bin .ensures .0)) (refl, tt)
 
 enum-known-r-2 : tie.Need-enum-known-r-2 Inv-loop μ-loop
 enum-known-r-2 c = search needs
@@ -81,7 +74,7 @@ gains-used-requires c κs = search needs
 
 add-n : tie.Need-add-n Inv-loop μ-loop
 add-n c =
-    let l = c .before .before .before .before .before .before .before .before .before .before .before .before .before .before .before .before .before .before in
+    let l = c .before .before .before .before .before .before .before .before .before .before .before .before .before .before .before .before in
     let a = l .before .before .before .before .before .before .args in
     let e = c .gains-used .ensures in
     let o = one-small (active (a .mode) (getD (now (a .row)) (l .loop .bin) 0)) in
@@ -99,9 +92,8 @@ loop-again c =
     let i = k .before .before .before .before in
     let x = i .before in
     let v = x .before .before in
-    let t = v .before in
-    let r = t .before in
-    let g = r .before .before .before .before .before in
+    let r = v .before in
+    let g = r .before .before .before .before in
     let l = g .before .before .before in
     let s = l .before .before .before .before .before .before in
     let a = s .args in
@@ -113,13 +105,15 @@ loop-again c =
       omega arith,
       omega arith,
       omega arith,
-      t .room .given ∙ l .loop .inv .3,
-      v .values .given ∙ l .loop .inv .4,
-      x .exact .given ∙ l .loop .inv .5,
-      i .indices .given ∙ l .loop .inv .6,
-      one-more (l .loop .inv .7) h (g .gain-at .result) (omega arith) (s .pre .0 .2) refl (g .gain-at .ensures)
+      v .values .given ∙ l .loop .inv .3,
+      x .exact .given ∙ l .loop .inv .4,
+      i .indices .given ∙ l .loop .inv .5,
+      one-more (l .loop .inv .6) h (g .gain-at .result) (omega arith) (s .pre .0 .2) refl (g .gain-at .ensures)
           (c .gains-used .result) _ _ _ _ e (w .0) (w .1) (w .2) G refl (sym (k .before .r2 .given .1) ∙ r .read-bin .ensures .0) (r .read-bin .ensures .1),
     )
+
+same-length-4 : tie.Need-same-length-4 Inv-loop μ-loop
+same-length-4 c = search needs
 
 same-length-5 : tie.Need-same-length-5 Inv-loop μ-loop
 same-length-5 c = search needs
@@ -127,16 +121,10 @@ same-length-5 c = search needs
 same-length-6 : tie.Need-same-length-6 Inv-loop μ-loop
 same-length-6 c = search needs
 
-same-length-7 : tie.Need-same-length-7 Inv-loop μ-loop
-same-length-7 c = search needs
-
-same-length-8 : tie.Need-same-length-8 Inv-loop μ-loop
-same-length-8 c = search needs
-
 returns-2 : tie.Need-returns-2 Inv-loop μ-loop
 returns-2 c =
     let l = c .before in
-    done (l .loop .inv .7) (omega arith)
+    done (l .loop .inv .6) (omega arith)
 
 pub read-bins-spec : {M : Type 1} → statement M
 read-bins-spec =
@@ -152,7 +140,6 @@ read-bins-spec =
     same-length
     same-length-2
     same-length-3
-    same-length-4
     returns
     enum-known-r-2
     gains-used-requires
@@ -160,8 +147,7 @@ read-bins-spec =
     add-bin
     loop-less
     loop-again
+    same-length-4
     same-length-5
     same-length-6
-    same-length-7
-    same-length-8
     returns-2)

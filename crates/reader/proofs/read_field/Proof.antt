@@ -29,7 +29,7 @@ cast-read-behind c = let f = mode (c .before) .few in record { fits = omega arit
 
 read-behind-requires : tie.Need-read-behind-requires
 read-behind-requires c κs =
-    let m = c .before .before .before .before .before .before in
+    let m = c .before .before .before .before .before in
     let s = m .before .before .before .before .before .before .before .before in
     (mode m .few, (s .pre .0, (s .pre .1 .0, (mode m .inside, (s .pre .1 .1 .1 .0, s .pre .1 .1 .1 .1)))))
 
@@ -52,13 +52,10 @@ same-length-3 c = search needs
 same-length-4 : tie.Need-same-length-4
 same-length-4 c = search needs
 
-same-length-5 : tie.Need-same-length-5
-same-length-5 c = search needs
-
 returns-2 : tie.Need-returns-2
 returns-2 c =
-    let b = c .before .before .before .before .before .before .before .before in
-    let m = b .before .before .before .before .before .before .before in
+    let b = c .before .before .before .before .before .before .before in
+    let m = b .before .before .before .before .before .before in
     let a = m .before .before .before .before .before .before .before .before .args in
     field-read (partOf (now (a .row)) (a .start) (a .end)) (now (a .src)) (a .pos) _ _ (mode m) (b .read-behind .result) _ (b .read-behind .ensures)
 
@@ -76,5 +73,4 @@ read-field-spec =
     same-length-2
     same-length-3
     same-length-4
-    same-length-5
     returns-2)

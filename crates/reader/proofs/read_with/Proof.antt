@@ -51,7 +51,7 @@ after-requires c κs = let h = inside c in search needs
 
 read-known-requires : tie.Need-read-known-requires
 read-known-requires c κs =
-    let k = c .before .before .before .before .before .before .before .before in
+    let k = c .before .before .before .before .before .before .before in
     let w = within (k .before .before .before) in
     let s = k .before .before .before .before .before .before .before .before .before .before .before .before in
     let i : Inside (8 * length (now (s .args .src))) (posOf (bitAt (s .args .pos))) = (rw at-pos (inside (k .before)), omega arith) in
@@ -78,13 +78,10 @@ same-length-6 c = search needs
 same-length-7 : tie.Need-same-length-7
 same-length-7 c = search needs
 
-same-length-8 : tie.Need-same-length-8
-same-length-8 c = search needs
-
 returns-2 : tie.Need-returns-2
 returns-2 c =
-    let r = c .before .before .before .before .before .before .before .before .before .before .before .before .before in
-    let k = r .before .before .before .before .before .before .before .before .before in
+    let r = c .before .before .before .before .before .before .before .before .before .before .before .before in
+    let k = r .before .before .before .before .before .before .before .before in
     let n = k .before .before .before in
     let a = n .before .before .before .before .before .before .before .before .before .args in
     let p : bitAt (k .after .result) ≡ bitAt (a .pos) = ap bitAt (place k) ∙ at-pos (bitAt (a .pos)) in
@@ -115,6 +112,5 @@ read-with-spec =
     same-length-5
     same-length-6
     same-length-7
-    same-length-8
     returns-2
     returns-3)

@@ -1,13 +1,14 @@
 -- `scalars::read_code` meets its contract. Assumes nothing.
-use Prim.Native.Nat.{ℕ, _-_, _≤_}
-use mathlib.Core.Path.{_≡_, sym, _∙_}
+use Prim.Native.Nat.{ℕ, _+_, _*_, _-_, _≤_, _<_}
+use mathlib.Core.Path.{_≡_, sym, ap, _∙_}
 use mathlib.Core.Bool.{Bool, true, false, cond}
 use mathlib.Core.Logic.{inl}
 use denote.Ref.{now}
 use lib.Dec.{eqb}
-use borrow.Author.Tests.{eq-eqb, ne-eqb}
-use Rattle.bits.specs.Bits.{bitAt}
-use Rattle.bits.proofs.Reading.{number-as, next-inside}
+use lib.ListN.{length}
+use borrow.Author.Tests.{eq-eqb, ne-eqb, leb-true, leb-false, not-true, not-false}
+use Rattle.bits.specs.Bits.{bitAt, posOf}
+use Rattle.bits.proofs.Reading.{number-there, number-missing, behind-inside}
 use Rattle.tables.specs.Tables.{mantBits}
 use Rattle.tables.proofs.Rules.{mant-bits}
 use Rattle.levels.specs.Codes.{smallBits, largeBits}
@@ -24,14 +25,53 @@ mant-requires c κs = search needs
 wide : (c : tie.After-mant) → (3 ≤ c .mant .result) × (c .mant .result ≤ 16)
 wide c = let a = c .before .before .args in rw (c .mant .ensures) (mant-bits (a .hebap) (omega arith) (omega arith))
 
-read-u32-requires : tie.Need-read-u32-requires
-read-u32-requires c κs = search needs
+cast-holds : tie.Need-cast-holds
+cast-holds c = let w = wide (c .before) in search needs
 
-enum-known-r : tie.Need-enum-known-r
-enum-known-r c = search needs
+holds-requires : tie.Need-holds-requires
+holds-requires c κs = search needs
 
-enum-known-r-2 : tie.Need-enum-known-r-2
-enum-known-r-2 c = search needs
+-- the number is there
+fits : (c : tie.Else2) → let k = c .before .before .before in let a = k .before .before .args in bitAt (a .pos) + k .mant .result ≤ 8 * length (now (a .src))
+fits c =
+    let k = c .before .before .before in
+    let a = k .before .before .args in
+    let h : bitAt (a .pos) + 1 * k .mant .result ≤ 8 * length (now (a .src)) = leb-true _ _ (sym (c .before .holds .ensures) ∙ not-false _ (c .if2 .left)) in
+    omega arith
+
+returns : tie.Need-returns
+returns c =
+    let k = c .before .before .before in
+    let a = k .before .before .args in
+    let w = wide k in
+    let h : 8 * length (now (a .src)) < bitAt (a .pos) + 1 * k .mant .result = leb-false _ _ (sym (c .before .holds .ensures) ∙ not-true _ (c .if2 .taken)) in (
+      sym (coded-one-none (mantBits (a .hebap)) (a .gk) _ (eq-eqb _ _ (c .before .before .if1 .taken)) _
+          (rw (← k .mant .ensures) (number-missing (now (a .src)) (bitAt (a .pos)) (k .mant .result) (omega arith) (omega arith) (inl (omega arith))))),
+      tt,
+    )
+
+number-requires : tie.Need-number-requires
+number-requires c κs = let w = wide (c .before .before .before) in let h = fits c in search needs
+
+cast-after : tie.Need-cast-after
+cast-after c = let w = wide (c .before .before .before .before) in search needs
+
+after-requires : tie.Need-after-requires
+after-requires c κs = let h = fits (c .before) in search needs
+
+returns-2 : tie.Need-returns-2
+returns-2 c =
+    let f = c .before .before in
+    let k = f .before .before .before in
+    let a = k .before .before .args in
+    let w = wide k in
+    let e : bitAt (a .pos) + 1 * k .mant .result ≡ bitAt (a .pos) + k .mant .result = omega arith in
+    let q : c .after .result ≡ posOf (bitAt (a .pos) + k .mant .result) = c .after .ensures ∙ ap posOf e in
+    rw (q, c .before .number .ensures) (
+      sym (coded-one-large (mantBits (a .hebap)) (a .gk) _ (eq-eqb _ _ (f .before .before .if1 .taken)) _ _
+          (rw (← k .mant .ensures) (number-there (now (a .src)) (bitAt (a .pos)) (k .mant .result) (omega arith) (fits f)))),
+      behind-inside (now (a .src)) (bitAt (a .pos)) (k .mant .result) (omega arith) (fits f),
+    )
 
 small-bits-requires : tie.Need-small-bits-requires
 small-bits-requires c κs = wide (c .before) .0
@@ -50,28 +90,6 @@ read-tagged-requires c κs =
     let a = k .before .before .args in
     (rw (c .before .small-bits .ensures, c .large-bits .ensures) (within (k .mant .result) (eqb (a .gk) 2) (w .0) (w .1)), search needs)
 
-returns : tie.Need-returns
-returns c =
-    let r = c .before .before .before in
-    let k = r .before .before in
-    let a = k .before .before .args in
-    let w = wide k in (
-      sym (coded-one-none (mantBits (a .hebap)) (a .gk) _ (eq-eqb _ _ (r .before .if1 .taken)) _
-          (rw (← k .mant .ensures) (number-as (now (a .src)) (bitAt (a .pos)) (k .mant .result) (omega arith) (inl (omega arith)) (r .read-u32 .result) _ (r .read-u32 .ensures) (c .before .r .given .1)))),
-      tt,
-    )
-
-returns-2 : tie.Need-returns-2
-returns-2 c =
-    let r = c .before .before .before in
-    let k = r .before .before in
-    let a = k .before .before .args in
-    let w = wide k in (
-      sym (coded-one-large (mantBits (a .hebap)) (a .gk) _ (eq-eqb _ _ (r .before .if1 .taken)) _ _
-          (rw (← k .mant .ensures) (number-as (now (a .src)) (bitAt (a .pos)) (k .mant .result) (omega arith) (inl (omega arith)) (r .read-u32 .result) _ (r .read-u32 .ensures) (c .before .r2 .given .1)))),
-      next-inside (now (a .src)) (bitAt (a .pos)) (k .mant .result) (omega arith) _ _ (sym (r .read-u32 .ensures) ∙ c .before .r2 .given .1),
-    )
-
 returns-3 : tie.Need-returns-3
 returns-3 c =
     let b = c .before .before in
@@ -86,12 +104,14 @@ read-code-spec =
     tie.close
     (tie.spec
     mant-requires
-    read-u32-requires
-    enum-known-r
-    enum-known-r-2
+    cast-holds
+    holds-requires
+    returns
+    number-requires
+    cast-after
+    after-requires
+    returns-2
     small-bits-requires
     large-bits-requires
     read-tagged-requires
-    returns
-    returns-2
     returns-3)

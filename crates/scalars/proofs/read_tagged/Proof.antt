@@ -1,26 +1,40 @@
 -- `scalars::read_tagged` meets its contract. Assumes nothing.
-use Prim.Native.Nat.{_*_}
-use mathlib.Core.Path.{_≡_, sym, _∙_}
+use Prim.Native.Nat.{_+_, _*_, _≤_, _<_}
+use mathlib.Core.Path.{_≡_, sym, ap, _∙_}
 use mathlib.Core.Logic.{inl, inr}
+use borrow.Author.Tests.{leb-true, leb-false, not-true, not-false}
 use denote.Ref.{now}
 use lib.ListN.{length, drop}
-use Rattle.bits.specs.Bits.{bitsOf, bitAt, Inside}
+use Rattle.bits.specs.Bits.{bitsOf, bitAt, posOf, Inside}
 use Rattle.bits.specs.Format.{number, got}
-use Rattle.bits.proofs.Reading.{number-as, next-inside}
+use Rattle.bits.proofs.Reading.{number-there, number-missing, behind-inside}
 use Rattle.levels.proofs.CodeLaws.{tagged-none, tagged-small, tagged-cut, tagged-large}
 use native.Mathlib.Omega.{arith}
 use borrow.Author.Needs.{needs}
 use Rattle.scalars.proofs.read_tagged.Statement.{statement}
 use Rattle.scalars.proofs.read_tagged.Tie as tie
 
-read-u32-requires : tie.Need-read-u32-requires
-read-u32-requires c κs = search needs
+holds-requires : tie.Need-holds-requires
+holds-requires c κs = search needs
 
-enum-known-first : tie.Need-enum-known-first
-enum-known-first c = search needs
+-- the first number is there
+fits : (c : tie.Else1) → let a = c .before .before .before .args in bitAt (a .pos) + a .w ≤ 8 * length (now (a .src))
+fits c =
+    let a = c .before .before .before .args in
+    let h : bitAt (a .pos) + 1 * a .w ≤ 8 * length (now (a .src)) = leb-true _ _ (sym (c .before .holds .ensures) ∙ not-false _ (c .if1 .left)) in
+    omega arith
 
-enum-known-first-2 : tie.Need-enum-known-first-2
-enum-known-first-2 c = search needs
+returns : tie.Need-returns
+returns c =
+    let a = c .before .before .before .args in
+    let h : 8 * length (now (a .src)) < bitAt (a .pos) + 1 * a .w = leb-false _ _ (sym (c .before .holds .ensures) ∙ not-true _ (c .if1 .taken)) in
+    (sym (tagged-none _ _ _ _ (number-missing (now (a .src)) (bitAt (a .pos)) (a .w) (omega arith) (omega arith) (inl (omega arith)))), tt)
+
+number-requires : tie.Need-number-requires
+number-requires c κs = let h = fits c in search needs
+
+after-requires : tie.Need-after-requires
+after-requires c κs = let h = fits (c .before) in search needs
 
 sub-two-to : tie.Need-sub-two-to
 sub-two-to c = search needs
@@ -28,75 +42,85 @@ sub-two-to c = search needs
 two-to-requires : tie.Need-two-to-requires
 two-to-requires c κs = search needs
 
-read-u32-requires-2 : tie.Need-read-u32-requires-2
-read-u32-requires-2 c κs = search needs
+-- the position behind the first number, and what is read up to there
+next-is : (c : tie.After-after) → let a = c .before .before .before .before .before .args in c .after .result ≡ posOf (bitAt (a .pos) + a .w)
+next-is c =
+    let a = c .before .before .before .before .before .args in
+    let e : bitAt (a .pos) + 1 * a .w ≡ bitAt (a .pos) + a .w = omega arith in
+    c .after .ensures ∙ ap posOf e
 
-enum-known-second : tie.Need-enum-known-second
-enum-known-second c = search needs
-
-enum-known-second-2 : tie.Need-enum-known-second-2
-enum-known-second-2 c = search needs
-
--- the first number, taken out by the match, and the position behind it
-first-is : (c : tie.After-known-told2) → let a = c .before .before .before .before .before .args in let g = c .before .first2 .given in
-    number (a .w) .dec (drop (bitAt (a .pos)) (bitsOf (now (a .src)))) ≡ got (g .0 .0) (drop (bitAt (g .0 .1 .0)) (bitsOf (now (a .src))))
-first-is c =
-    let r = c .before .before .before in
-    let a = r .before .before .args in
-    number-as (now (a .src)) (bitAt (a .pos)) (a .w) (omega arith) (inl (omega arith)) (r .read-u32 .result) _ (r .read-u32 .ensures) (c .before .first2 .given .1)
-
-inside : (c : tie.After-known-told2) → let a = c .before .before .before .before .before .args in Inside (8 * length (now (a .src))) (c .before .first2 .given .0 .1 .0)
+inside : (c : tie.After-after) → let a = c .before .before .before .before .before .args in Inside (8 * length (now (a .src))) (c .after .result)
 inside c =
-    let r = c .before .before .before in
-    let a = r .before .before .args in
-    next-inside (now (a .src)) (bitAt (a .pos)) (a .w) (omega arith) _ _ (sym (r .read-u32 .ensures) ∙ c .before .first2 .given .1)
+    let a = c .before .before .before .before .before .args in
+    rw (next-is c) (behind-inside (now (a .src)) (bitAt (a .pos)) (a .w) (omega arith) (fits (c .before .before)))
 
-returns : tie.Need-returns
-returns c =
-    let r = c .before .before .before in
-    let a = r .before .before .args in
-    (sym (tagged-none _ _ _ _ (number-as (now (a .src)) (bitAt (a .pos)) (a .w) (omega arith) (inl (omega arith)) (r .read-u32 .result) _ (r .read-u32 .ensures) (c .before .first .given .1))), tt)
+first-is : (c : tie.After-after) → let a = c .before .before .before .before .before .args in
+    number (a .w) .dec (drop (bitAt (a .pos)) (bitsOf (now (a .src)))) ≡ got (c .before .number .result) (drop (bitAt (c .after .result)) (bitsOf (now (a .src))))
+first-is c =
+    let a = c .before .before .before .before .before .args in
+    rw (next-is c, c .before .number .ensures) (number-there (now (a .src)) (bitAt (a .pos)) (a .w) (omega arith) (fits (c .before .before)))
 
 returns-2 : tie.Need-returns-2
 returns-2 c =
-    let r = c .before .before .before in
-    let t = r .before in
-    let k = t .before .before in
-    let a = k .before .before .before .before .before .args in (
-      sym (tagged-cut _ _ _ _ _ _ (first-is k) (t .if1 .taken ∙ t .before .two-to .ensures)
-          (number-as (now (a .src)) (bitAt (k .before .first2 .given .0 .1 .0)) (a .v) (omega arith) (inr (inside k .0)) (r .read-u322 .result) _ (r .read-u322 .ensures) (c .before .second .given .1))),
-      tt,
-    )
+    let k = c .before .before in
+    (sym (tagged-small _ _ _ _ _ (first-is k) (λ e. c .if2 .taken (e ∙ sym (c .before .two-to .ensures)))), inside k)
+
+holds-requires-2 : tie.Need-holds-requires-2
+holds-requires-2 c κs = search needs
 
 returns-3 : tie.Need-returns-3
 returns-3 c =
-    let r = c .before .before .before in
-    let t = r .before in
+    let t = c .before .before in
     let k = t .before .before in
-    let a = k .before .before .before .before .before .args in (
-      sym (tagged-large _ _ _ _ _ _ _ (first-is k) (t .if1 .taken ∙ t .before .two-to .ensures)
-          (number-as (now (a .src)) (bitAt (k .before .first2 .given .0 .1 .0)) (a .v) (omega arith) (inr (inside k .0)) (r .read-u322 .result) _ (r .read-u322 .ensures) (c .before .second2 .given .1))),
-      next-inside (now (a .src)) (bitAt (k .before .first2 .given .0 .1 .0)) (a .v) (omega arith) _ _ (sym (r .read-u322 .ensures) ∙ c .before .second2 .given .1),
-    )
+    let a = k .before .before .before .before .before .args in
+    let p = bitAt (k .after .result) in
+    let i = inside k in
+    let h : 8 * length (now (a .src)) < p + 1 * a .v = leb-false _ _ (sym (c .before .holds2 .ensures) ∙ not-true _ (c .if3 .taken)) in
+    (sym (tagged-cut _ _ _ _ _ _ (first-is k) (t .if2 .left ∙ t .before .two-to .ensures) (number-missing (now (a .src)) p (a .v) (omega arith) (omega arith) (inr (i .0)))), tt)
+
+-- the second number is there
+fits-2 : (c : tie.Else3) → let k = c .before .before .before .before in let a = k .before .before .before .before .before .args in bitAt (k .after .result) + a .v ≤ 8 * length (now (a .src))
+fits-2 c =
+    let k = c .before .before .before .before in
+    let a = k .before .before .before .before .before .args in
+    let h : bitAt (k .after .result) + 1 * a .v ≤ 8 * length (now (a .src)) = leb-true _ _ (sym (c .before .holds2 .ensures) ∙ not-false _ (c .if3 .left)) in
+    omega arith
+
+number-requires-2 : tie.Need-number-requires-2
+number-requires-2 c κs = let h = fits-2 c in search needs
+
+after-requires-2 : tie.Need-after-requires-2
+after-requires-2 c κs = let h = fits-2 (c .before) in search needs
 
 returns-4 : tie.Need-returns-4
 returns-4 c =
-    let k = c .before .before in
-    (sym (tagged-small _ _ _ _ _ (first-is k) (λ e. c .if1 .left (e ∙ sym (c .before .two-to .ensures)))), inside k)
+    let f = c .before .before in
+    let t = f .before .before in
+    let k = t .before .before in
+    let s = k .before .before .before .before .before in
+    let a = s .args in
+    let u : a .v ≤ 32 = let z = s .pre .0 .2 in omega arith in
+    let p = bitAt (k .after .result) in
+    let e : p + 1 * a .v ≡ p + a .v = omega arith in
+    let q : c .after2 .result ≡ posOf (p + a .v) = c .after2 .ensures ∙ ap posOf e in
+    rw (q, c .before .number2 .ensures) (
+      sym (tagged-large _ _ _ _ _ _ _ (first-is k) (t .if2 .left ∙ t .before .two-to .ensures) (number-there (now (a .src)) p (a .v) u (fits-2 f))),
+      behind-inside (now (a .src)) p (a .v) u (fits-2 f),
+    )
 
 pub read-tagged-spec : {M : Type 1} → statement M
 read-tagged-spec =
     tie.close
     (tie.spec
-    read-u32-requires
-    enum-known-first
-    enum-known-first-2
+    holds-requires
+    returns
+    number-requires
+    after-requires
     sub-two-to
     two-to-requires
-    read-u32-requires-2
-    enum-known-second
-    enum-known-second-2
-    returns
     returns-2
+    holds-requires-2
     returns-3
+    number-requires-2
+    after-requires-2
     returns-4)

@@ -15,10 +15,10 @@ use Rattle.writer.proofs.write_bin.Tie as tie
 
 -- the bin of the coding that was found
 known : (c : tie.After-coding-of) (d : Coding) → c .coding-of .result ≡ d
-    → let a = c .before .before .before .args in
+    → let a = c .before .before .before .before .args in
     Range d (a .hebap) × (binOf (a .mode) (a .hebap) (a .gk) ≡ codedAs d (a .hebap) (a .gk))
 known c d e =
-    let s = c .before .before .before in
+    let s = c .before .before .before .before in
     let a = s .args in
     coded-bin (a .mode) (a .hebap) (a .gk) d (s .pre .0) (sym (c .coding-of .ensures) ∙ e)
 
@@ -33,9 +33,9 @@ enum-told-2 c = search needs
 
 write-index-requires : tie.Need-write-index-requires
 write-index-requires c κs =
-    let t = c .before .before in
+    let t = c .before in
     let k = t .before .before in
-    let s = k .before .before .before in
+    let s = k .before .before .before .before in
     let b = known k Coding.Book (t .enum-told2 .given .1) in
     (b .0, (s .pre .1 .1 .0, (s .pre .1 .1 .1 .0, rw (b .1) at (s .pre .1 .1 .1 .1))))
 
@@ -46,7 +46,7 @@ write-six-requires : tie.Need-write-six-requires
 write-six-requires c κs =
     let t = c .before in
     let k = t .before .before in
-    let s = k .before .before .before in
+    let s = k .before .before .before .before in
     let a = s .args in
     let b = known k Coding.Fixed (t .enum-told3 .given .1) in
     ((b .0, s .pre .0), (s .pre .1 .1 .0, rw (← codes-bits (a .hebap) 1 (now (a .x))) (rw (b .1) at (s .pre .1 .1 .1 .1))))
@@ -58,7 +58,7 @@ write-six-requires-2 : tie.Need-write-six-requires-2
 write-six-requires-2 c κs =
     let t = c .before in
     let k = t .before .before in
-    let s = k .before .before .before in
+    let s = k .before .before .before .before in
     let a = s .args in
     let b = known k Coding.Adaptive (t .enum-told4 .given .1) in
     ((b .0, s .pre .0), (s .pre .1 .1 .0, rw (← codes-bits (a .hebap) (a .gk) (now (a .x))) (rw (b .1) at (s .pre .1 .1 .1 .1))))
@@ -66,47 +66,44 @@ write-six-requires-2 c κs =
 returns : tie.Need-returns
 returns c =
     let k = c .before .before in
-    let s = k .before .before .before in
+    let s = k .before .before .before .before in
     let a = s .args in
     let b = known k Coding.Nothing (c .enum-told .given .1) in
-    rw (b .1) (own (a .p) (s .pre .1 .0) ∙ ap posOf (omega arith), sym (with-none (now (a .out)) (bitAt (a .p)) (λ i j. omega (arith, k .before .before .slice-known .given i))))
+    rw (b .1) (own (a .p) (s .pre .1 .0) ∙ ap posOf (omega arith), sym (with-none (now (a .out)) (bitAt (a .p)) (λ i j. omega (arith, k .before .before .before .slice-known .given i))))
 
 same-length : tie.Need-same-length
 same-length c = search needs
 
-same-length-2 : tie.Need-same-length-2
-same-length-2 c = search needs
-
 returns-2 : tie.Need-returns-2
 unfolding number
 returns-2 c =
-    let w = c .before .before .before in
-    let t = w .before .before .before in
+    let w = c .before .before in
+    let t = w .before .before in
     let k = t .before .before in
     let b = known k Coding.Book (t .enum-told2 .given .1) in
     rw (b .1) (w .write-index .ensures)
 
-same-length-3 : tie.Need-same-length-3
-same-length-3 c = search needs
+same-length-2 : tie.Need-same-length-2
+same-length-2 c = search needs
 
 returns-3 : tie.Need-returns-3
 returns-3 c =
     let w = c .before .before in
     let t = w .before .before in
     let k = t .before .before in
-    let a = k .before .before .before .args in
+    let a = k .before .before .before .before .args in
     let b = known k Coding.Fixed (t .enum-told3 .given .1) in
     rw (b .1) (rw (codes-bits (a .hebap) 1 (now (a .x))) (w .write-six .ensures .0), w .write-six .ensures .1)
 
-same-length-4 : tie.Need-same-length-4
-same-length-4 c = search needs
+same-length-3 : tie.Need-same-length-3
+same-length-3 c = search needs
 
 returns-4 : tie.Need-returns-4
 returns-4 c =
     let w = c .before .before in
     let t = w .before .before in
     let k = t .before .before in
-    let a = k .before .before .before .args in
+    let a = k .before .before .before .before .args in
     let b = known k Coding.Adaptive (t .enum-told4 .given .1) in
     rw (b .1) (rw (codes-bits (a .hebap) (a .gk) (now (a .x))) (w .write-six2 .ensures .0), w .write-six2 .ensures .1)
 
@@ -124,9 +121,8 @@ write-bin-spec =
     write-six-requires-2
     returns
     same-length
-    same-length-2
     returns-2
-    same-length-3
+    same-length-2
     returns-3
-    same-length-4
+    same-length-3
     returns-4)

@@ -19,10 +19,10 @@ use Rattle.writer.proofs.write_bins.Statement.{statement}
 use Rattle.writer.proofs.write_bins.Tie as tie
 
 abbrev Inv-loop : tie.InvT-loop
-Inv-loop out₀ mode row start end x gains room₀ q₀ n₀ bin₀ out room q n bin = (start ≤ bin) × (bin ≤ end) × (n ≤ bin) × (length room ≡ 3072) × Left out₀ out q₀ q (binsBits mode (partOf row bin end) (drop n gains) x bin) (binsBits mode (partOf row start end) gains x start)
+Inv-loop out₀ mode row start end x gains loaded q₀ n₀ bin₀ out q n bin = (start ≤ bin) × (bin ≤ end) × (n ≤ bin) × Left out₀ out q₀ q (binsBits mode (partOf row bin end) (drop n gains) x bin) (binsBits mode (partOf row start end) gains x start)
 
 abbrev μ-loop : tie.MeasureT-loop
-μ-loop out₀ mode row start end x gains room₀ q₀ n₀ bin₀ out room q n bin = end - bin
+μ-loop out₀ mode row start end x gains loaded q₀ n₀ bin₀ out q n bin = end - bin
 
 -- the whole is as long as its size, and has room
 long : (c : tie.Start Inv-loop μ-loop)
@@ -39,9 +39,9 @@ room c = rw (long c) (c .pre .1 .1 .1 .1)
 
 loop-holds : tie.Need-loop-holds Inv-loop μ-loop
 loop-holds c =
-    let s = c .before .before .before .before in
+    let s = c .before .before .before .before .before in
     let a = s .args in
-    (omega arith, s .pre .0 .0, omega arith, s .pre .1 .1 .0, left-all (now (a .out)) (a .p) (binsBits (a .mode) (partOf (now (a .row)) (a .start) (a .end)) (now (a .gains)) (now (a .x)) (a .start)) (λ i k. omega (arith, c .before .before .before .slice-known .given i)) (own (a .p) (s .pre .1 .1 .1 .0)))
+    (omega arith, s .pre .0 .0, omega arith, left-all (now (a .out)) (a .p) (binsBits (a .mode) (partOf (now (a .row)) (a .start) (a .end)) (now (a .gains)) (now (a .x)) (a .start)) (λ i k. omega (arith, c .before .before .before .before .slice-known .given i)) (own (a .p) (s .pre .1 .1 .1 .0)))
 
 shared-slice-read-hebap : tie.Need-shared-slice-read-hebap Inv-loop μ-loop
 shared-slice-read-hebap c = search needs
@@ -69,9 +69,9 @@ part-write-bin-end c = search needs
 
 write-bin-requires : tie.Need-write-bin-requires Inv-loop μ-loop
 write-bin-requires c κs =
-    let g = c .before .before in
+    let g = c .before in
     let l = g .before .before .before .before in
-    let s = l .before .before .before .before .before in
+    let s = l .before .before .before .before .before .before in
     let a = s .args in
     let k = l .loop .bin in
     let h = getD (now (a .row)) k 0 in
@@ -80,12 +80,12 @@ write-bin-requires c κs =
     rw (part-six (now (a .x)) k) (
       known-hebap (now (a .row)) (a .start) (a .end) k (s .pre .1 .0) (l .loop .inv .0) (omega arith),
       (
-        bit-small (l .loop .q) (l .loop .inv .4 .name),
+        bit-small (l .loop .q) (l .loop .inv .3 .name),
         (
           six,
           (
-            l .loop .inv .3,
-            left-room (l .loop .inv .4) (item (binOf (a .mode) h r) .enc (itemOf (binOf (a .mode) h r) (sixOf (now (a .x)) k))) _ _ (item-long (a .mode) h r (sixOf (now (a .x)) k) six)
+            s .pre .1 .1 .0,
+            left-room (l .loop .inv .3) (item (binOf (a .mode) h r) .enc (itemOf (binOf (a .mode) h r) (sixOf (now (a .x)) k))) _ _ (item-long (a .mode) h r (sixOf (now (a .x)) k) six)
                 (bins-next (a .mode) (now (a .row)) (now (a .x)) (a .end) k (l .loop .n) _ h r (now (a .gains)) (omega arith) (s .pre .0 .2) refl (g .gain-at .ensures) refl) (room s),
           ),
         ),
@@ -97,8 +97,8 @@ gains-used-requires c κs = search needs
 
 add-n : tie.Need-add-n Inv-loop μ-loop
 add-n c =
-    let l = c .before .before .before .before .before .before .before .before .before .before .before in
-    let a = l .before .before .before .before .before .args in
+    let l = c .before .before .before .before .before .before .before .before .before in
+    let a = l .before .before .before .before .before .before .args in
     let e = c .gains-used .ensures in
     let o = one-small (active (a .mode) (getD (now (a .row)) (l .loop .bin) 0)) in
     search needs
@@ -111,10 +111,10 @@ loop-less c = search needs
 
 loop-again : tie.Need-loop-again Inv-loop μ-loop
 loop-again c =
-    let w = c .before .before .before .before in
-    let g = w .before .before .before in
+    let w = c .before .before .before in
+    let g = w .before .before in
     let l = g .before .before .before .before in
-    let s = l .before .before .before .before .before in
+    let s = l .before .before .before .before .before .before in
     let a = s .args in
     let k = l .loop .bin in
     let h = getD (now (a .row)) k 0 in
@@ -125,24 +125,20 @@ loop-again c =
       omega arith,
       omega arith,
       omega arith,
-      search needs,
-      left-next (l .loop .inv .4) _ _ (item (binOf (a .mode) h r) .enc (itemOf (binOf (a .mode) h r) (sixOf (now (a .x)) k))) _ _ (item-long (a .mode) h r (sixOf (now (a .x)) k) six)
+      left-next (l .loop .inv .3) _ _ (item (binOf (a .mode) h r) .enc (itemOf (binOf (a .mode) h r) (sixOf (now (a .x)) k))) _ _ (item-long (a .mode) h r (sixOf (now (a .x)) k) six)
           (bins-next (a .mode) (now (a .row)) (now (a .x)) (a .end) k (l .loop .n) (c .gains-used .result) h r (now (a .gains)) (omega arith) (s .pre .0 .2) refl (g .gain-at .ensures) e) (room s)
           (rw (part-six (now (a .x)) k) at (w .write-bin .ensures)),
     )
 
 same-length : tie.Need-same-length Inv-loop μ-loop
-same-length c = let e = c .before .loop .inv .4 .wrote .long in search needs
-
-same-length-2 : tie.Need-same-length-2 Inv-loop μ-loop
-same-length-2 c = search needs
+same-length c = let e = c .before .loop .inv .3 .wrote .long in search needs
 
 returns : tie.Need-returns Inv-loop μ-loop
 returns c =
     let l = c .before in
-    let s = l .before .before .before .before .before in
+    let s = l .before .before .before .before .before .before in
     let a = s .args in
-    left-none (l .loop .inv .4) _ (long s) (bins-end (a .mode) (now (a .row)) (now (a .x)) (a .end) (l .loop .bin) (drop (l .loop .n) (now (a .gains))) (omega arith))
+    left-none (l .loop .inv .3) _ (long s) (bins-end (a .mode) (now (a .row)) (now (a .x)) (a .end) (l .loop .bin) (drop (l .loop .n) (now (a .gains))) (omega arith))
 
 pub write-bins-spec : {M : Type 1} → statement M
 write-bins-spec =
@@ -166,5 +162,4 @@ write-bins-spec =
     loop-less
     loop-again
     same-length
-    same-length-2
     returns)

@@ -8,7 +8,7 @@ use Rattle.writer.proofs.write_field.Tie as tie
 
 put-requires : tie.Need-put-requires
 put-requires c κs =
-    let s = c .before .before .before .before .before in
+    let s = c .before .before .before .before .before .before in
     let a = s .args in
     let e = parts-bits (a .mode) (now (a .gains)) (now (a .row)) (now (a .x)) (a .start) (a .end) (s .pre .0) (s .pre .1 .0) (s .pre .1 .1 .0) in
     let r = s .pre .1 .1 .1 .1 in
@@ -17,7 +17,7 @@ put-requires c κs =
 write-gains-requires : tie.Need-write-gains-requires
 write-gains-requires c κs =
     let w = c .before .before .before in
-    let s = w .before .before .before .before .before .before in
+    let s = w .before .before .before .before .before .before .before in
     let a = s .args in
     let r = gains-room (a .mode) (now (a .gains)) (now (a .row)) (now (a .x)) (a .start) (a .end) (s .pre .0) (s .pre .1 .0) (s .pre .1 .1 .0) _ _ (a .p) _ (s .pre .1 .1 .1 .1) (w .put .ensures) in (
       s .pre .1 .1 .0 .mode-is,
@@ -26,9 +26,9 @@ write-gains-requires c κs =
 
 write-bins-requires : tie.Need-write-bins-requires
 write-bins-requires c κs =
-    let g = c .before .before .before .before in
+    let g = c .before .before .before in
     let w = g .before .before .before .before in
-    let s = w .before .before .before .before .before .before in
+    let s = w .before .before .before .before .before .before .before in
     let a = s .args in
     let i = s .pre .0 in
     let r = bins-room (a .mode) (now (a .gains)) (now (a .row)) (now (a .x)) (a .start) (a .end) i (s .pre .1 .0) (s .pre .1 .1 .0) _ _ (a .p) _ (s .pre .1 .1 .1 .1) (w .put .ensures) _ _ (g .write-gains .ensures) in
@@ -37,15 +37,12 @@ write-bins-requires c κs =
 same-length : tie.Need-same-length
 same-length c = search needs
 
-same-length-2 : tie.Need-same-length-2
-same-length-2 c = search needs
-
 returns : tie.Need-returns
 returns c =
-    let b = c .before .before .before in
-    let g = b .before .before .before .before .before in
+    let b = c .before .before in
+    let g = b .before .before .before .before in
     let w = g .before .before .before .before in
-    let s = w .before .before .before .before .before .before in
+    let s = w .before .before .before .before .before .before .before in
     let a = s .args in
     field-put (a .mode) (now (a .gains)) (now (a .row)) (now (a .x)) (a .start) (a .end) (s .pre .0) (s .pre .1 .0) (s .pre .1 .1 .0) _ _ (a .p) _ (s .pre .1 .1 .1 .1) (w .put .ensures) _ _ (g .write-gains .ensures) _ _ (b .write-bins .ensures)
 
@@ -57,5 +54,4 @@ write-field-spec =
     write-gains-requires
     write-bins-requires
     same-length
-    same-length-2
     returns)

@@ -1,5 +1,5 @@
 -- `bits::BitPos::read_u32` meets its contract: at each `return` the tests that led there say which case of the definition holds. Assumes nothing.
-use Prim.Native.Nat.{_+_, _*_, _/_, _%_, _≤_, _<_}
+use Prim.Native.Nat.{_+_, _*_, _≤_, _<_}
 use mathlib.Core.Path.{_≡_, sym, _∙_}
 use borrow.Author.Tests.{leb-true, leb-false}
 use denote.Ref.{now}
@@ -14,7 +14,7 @@ use Rattle.bits.proofs.BitPos.read_u32.Reads as reads
 use Rattle.bits.proofs.BitPos.read_u32.Lts as lts
 use Rattle.bits.proofs.BitPos.after.Reads as after-reads
 use Rattle.bits.proofs.BitPos.holds.Reads as holds-reads
-use Rattle.bits.proofs.number_at.Reads as number-at-reads
+use Rattle.bits.proofs.BitPos.number.Reads as number-reads
 
 -- what the test of `holds` says of the position
 fits : (c : tie.Then2) → let a = c .before .before .before .before .args in bitAt (a .self) + a .n ≤ 8 * length (now (a .src))
@@ -29,14 +29,8 @@ returns c = sym (read-wide _ _ _ (c .if1 .taken))
 holds-requires : tie.Need-holds-requires
 holds-requires c κs = search needs
 
-cast-q : tie.Need-cast-q
-cast-q c = search needs
-
-add-q : tie.Need-add-q
-add-q c = let h = fits c in search needs
-
-number-at-requires : tie.Need-number-at-requires
-number-at-requires c κs = let h = fits c in search needs
+number-requires : tie.Need-number-requires
+number-requires c κs = let h = fits c in search needs
 
 after-requires : tie.Need-after-requires
 after-requires c κs = let h = fits (c .before) in search needs
@@ -45,7 +39,6 @@ returns-2 : tie.Need-returns-2
 returns-2 c =
     let a = c .before .before .before .before .before .before .args in
     let h = fits (c .before .before) in
-    let e : 8 * (a .self .byte + a .self .bit / 8) + a .self .bit % 8 ≡ bitAt (a .self) = omega arith in
     let f : bitAt (a .self) + 1 * a .n ≡ bitAt (a .self) + a .n = omega arith in
     cc (read-good (now (a .src)) (bitAt (a .self)) (a .n) (omega arith) h)
 
@@ -61,9 +54,7 @@ read-u32-spec =
     (tie.spec
     returns
     holds-requires
-    cast-q
-    add-q
-    number-at-requires
+    number-requires
     after-requires
     returns-2
     returns-3)

@@ -1,0 +1,165 @@
+-- A book in component order: where its numbers stand, and that the search through it is the search through the book. Assumes nothing.
+use Prim.Native.Nat.{ℕ, zero, suc, _+_, _-_, _*_, _/_, _%_, _^_, _<_, _≤_}
+use mathlib.Core.Path.{_≡_, refl, ap, sym, _∙_}
+use mathlib.Core.Bool.{false}
+use mathlib.Core.List.{List, [], _∷_, _++_}
+use native.Mathlib.Nat.{zero-mul, suc-mul, mul-comm, mod-lt, mod-add-div, div-lt-iff-lt-mul}
+use native.Mathlib.Omega.{arith}
+use lib.IntN.{ℤ, pos}
+use lib.ListN.{length, getD, take, drop, length-drop, List·getD-append}
+use lib.Dec.{T, eqb, leb, eqb→eq, leb→le}
+use lib.Ieee.Bits.{nanBits-is}
+use lib.Seq.{getD-append-add, getD-drop, length-take-le}
+use lib.Ieee.{Float, nan, inf, fin, binary32, ofBits, nanBits, isNan}
+use Rattle.tables.specs.Numbers.{vqBitsTable}
+use Rattle.tables.specs.Tables.{book, vqBits}
+use Rattle.tables.proofs.Tests.{every-at}
+use Rattle.levels.specs.Value.{f0, q15}
+use Rattle.fractions.specs.Fractions.{column, byComponent, floats}
+use Rattle.books.specs.Books.{termOf, sumTo, distanceOf, searchFrom, nearestIn, vectorsOf, searchOf}
+use Rattle.books.specs.Work.{searchBy, termBy, distanceBy, distanceIn, NoNans, placeOf, FractionsLoaded}
+use Rattle.books.proofs.First.{real, entry-real}
+use Rattle.books.proofs.Laws.{HasBook, has-book, some-vectors}
+
+-- ---- the f32 at a place
+pub float-at : (l : List ℕ) (i : ℕ) → i < length l → getD (floats l) i nan ≡ ofBits binary32 (getD l i 0)
+unfolding floats
+float-at [] i h = absurd (omega arith)
+float-at (u ∷ l) zero h = refl
+float-at (u ∷ l) (suc i) h = float-at l i (omega arith)
+
+-- six terms are the distance
+pub six-terms : (t : List ℕ) (n k : ℕ) (p q r s u v a b c d e z : Float) → n * 6 ≤ length t → k < n
+    → a ≡ termBy f0 p (ofBits binary32 (getD t k 0)) → b ≡ termBy a q (ofBits binary32 (getD t (k + n) 0))
+    → c ≡ termBy b r (ofBits binary32 (getD t (k + 2 * n) 0)) → d ≡ termBy c s (ofBits binary32 (getD t (k + 3 * n) 0))
+    → e ≡ termBy d u (ofBits binary32 (getD t (k + 4 * n) 0)) → z ≡ termBy e v (ofBits binary32 (getD t (k + 5 * n) 0))
+    → z ≡ distanceBy (floats t) n k p q r s u v
+unfolding distanceBy
+six-terms t n k p q r s u v a b c d e z l h ea eb ec ed ee ez =
+    rw (float-at t k (omega arith), float-at t (k + n) (omega arith), float-at t (k + 2 * n) (omega arith), float-at t (k + 3 * n) (omega arith), float-at t (k + 4 * n) (omega arith), float-at t (k + 5 * n) (omega arith))
+    (ez ∙ rw (ee, ed, ec, eb, ea))
+
+-- ---- one column
+column-length : (n : ℕ) (b : List ℤ) → length (column n b) ≡ n
+unfolding column
+column-length zero b = refl
+column-length (suc n) b = ap suc (column-length n (drop 6 b))
+
+column-at : (n k : ℕ) (b : List ℤ) → k < n → getD (column n b) k nan ≡ q15 (getD b (k * 6) (pos 0))
+unfolding column
+column-at zero k b h = absurd (omega arith)
+column-at (suc n) zero b h = refl
+column-at (suc n) (suc k) b h =
+    let e : 6 + k * 6 ≡ suc k * 6 = omega arith in
+    column-at n k (drop 6 b) (omega arith) ∙ rw (getD-drop 6 b (k * 6) (pos 0), e)
+
+-- ---- several, one behind another
+module _ (n : ℕ) (b : List ℤ) where
+  -- the columns j to j + m
+  abbrev columns : ℕ → ℕ → List Float
+  columns zero j = column n (drop j b)
+  columns (suc m) j = column n (drop j b) ++ columns m (suc j)
+
+  from-column : (j k : ℕ) → k < n → getD (column n (drop j b)) k nan ≡ q15 (getD b (k * 6 + j) (pos 0))
+  from-column j k h =
+      let e : j + k * 6 ≡ k * 6 + j = omega arith in
+      column-at n k (drop j b) h ∙ rw (getD-drop j b (k * 6) (pos 0), e)
+
+  columns-at : (m j i k p : ℕ) → i ≤ m → k < n → p ≡ k + i * n → getD (columns m j) p nan ≡ q15 (getD b (k * 6 + (j + i)) (pos 0))
+  columns-at zero j zero k p u h e =
+      let f : p ≡ k = omega (arith, zero-mul n) in
+      let g : j ≡ j + 0 = omega arith in
+      rw (f, ← g) (from-column j k h)
+  columns-at zero j (suc i) k p u h e = absurd (omega arith)
+  columns-at (suc m) j zero k p u h e =
+      let f : p ≡ k = omega (arith, zero-mul n) in
+      let g : j ≡ j + 0 = omega arith in
+      let l : k < length (column n (drop j b)) = omega (arith, column-length n (drop j b)) in
+      rw (f, ← g) (List·getD-append (column n (drop j b)) (columns m (suc j)) nan k l ∙ from-column j k h)
+  columns-at (suc m) j (suc i) k p u h e =
+      let f : p ≡ length (column n (drop j b)) + (k + i * n) = omega (arith, column-length n (drop j b), suc-mul i n) in
+      let g : suc j + i ≡ j + suc i = omega arith in
+      rw (f, ← g) (getD-append-add (column n (drop j b)) (columns m (suc j)) (k + i * n) nan ∙ columns-at m (suc j) i k (k + i * n) (omega arith) h refl)
+
+  -- number j of vector k
+  component : (j k p : ℕ) → j < 6 → k < n → p ≡ k + j * n → getD (byComponent n b) p nan ≡ q15 (getD b (k * 6 + j) (pos 0))
+  unfolding byComponent
+  component j k p u h e = let g : 0 + j ≡ j = omega arith in rw g at (columns-at 5 0 j k p (omega arith) h e)
+
+  -- the distance from vector k
+  same-distance : (x : List Float) (k : ℕ) → k < n → distanceIn x (byComponent n b) n k ≡ distanceOf x b k
+  unfolding distanceIn distanceBy termBy distanceOf sumTo termOf
+  same-distance x k h =
+      let e0 = component 0 k k (omega arith) h (omega (arith, zero-mul n)) in
+      let e1 = component 1 k (k + n) (omega arith) h (omega arith) in
+      let e2 = component 2 k (k + 2 * n) (omega arith) h refl in
+      let e3 = component 3 k (k + 3 * n) (omega arith) h refl in
+      let e4 = component 4 k (k + 4 * n) (omega arith) h refl in
+      let e5 = component 5 k (k + 5 * n) (omega arith) h refl in
+      rw (e0, e1, e2, e3, e4, e5)
+
+-- ---- bit patterns that show a book's fractions are no NaN's
+number-bits : (u : ℕ) (x : Float) → T (real x) → ofBits binary32 u ≡ x → nanBits binary32 u ≡ false
+unfolding isNan
+number-bits u nan r e = absurd r
+number-bits u (inf s) r e = nanBits-is binary32 u ∙ rw e
+number-bits u (fin s m g) r e = nanBits-is binary32 u ∙ rw e
+
+pub no-nans : (t : List ℕ) (n : ℕ) (b : List ℤ) → 0 < n → length t ≤ n * 6 → floats t ≡ byComponent n b → NoNans t
+no-nans t n b z l e =
+    record {
+      each = λ i h.
+          let j : i / n < 6 = div-lt-iff-lt-mul z .1 (omega arith) in
+          let p : i ≡ i % n + i / n * n = sym (mod-add-div i n) ∙ rw (mul-comm n (i / n)) in
+          let q = component n b (i / n) (i % n) i j (mod-lt i z) p in
+          number-bits (getD t i 0) (q15 (getD b (i % n * 6 + i / n) (pos 0))) (entry-real _) (sym (float-at t i h) ∙ rw e q);
+    }
+
+-- ---- the search
+by-distance : (x : List Float) (b : List ℤ) (f : ℕ → Float) (n k best : ℕ) (d : Float) → ((i : ℕ) → i < k + n → f i ≡ distanceOf x b i)
+    → searchBy f n k best d ≡ searchFrom x b n k best d
+unfolding searchBy searchFrom
+by-distance x b f zero k best d h = refl
+by-distance x b f (suc n) k best d h =
+    let e = h k (omega arith) in
+    rw e (by-distance x b f n (suc k) _ _ (λ i l. h i (omega arith)))
+
+pub by-component : (n : ℕ) (b : List ℤ) (x : List Float) → searchBy (distanceIn x (byComponent n b) n) n 0 0 (inf false) ≡ nearestIn b n x
+unfolding nearestIn
+by-component n b x = by-distance x b (distanceIn x (byComponent n b) n) n 0 0 (inf false) (λ k h. same-distance n b x k (omega arith))
+
+-- ---- the book of a hebap
+-- n vectors, from the place a of the seven books on
+pub record Placed (h n a : ℕ) : Type 0 where
+  pub has : HasBook h n
+  pub some : 0 < n
+  pub fours : n % 4 ≡ 0
+  pub room : a + 6 * n ≤ 5736
+
+pub placed : (h n a : ℕ) → 1 ≤ h → h ≤ 7 → n ≡ vectorsOf h → a ≡ placeOf h → Placed h n a
+unfolding vqBits vqBitsTable
+placed h n a l u en ea =
+    let z = some-vectors h n l u en in
+    record {
+      has = has-book h n en z;
+      some = omega arith;
+      fours = rw en (eqb→eq (vectorsOf h % 4) 0 (every-at (λ k. eqb (vectorsOf k % 4) 0) 7 1 h tt l (omega arith)));
+      room = rw (en, ea) (leb→le (placeOf h + 6 * vectorsOf h) 5736 (every-at (λ k. leb (placeOf k + 6 * vectorsOf k) 5736) 7 1 h tt l (omega arith)));
+    }
+
+-- that part of the seven books, as the code names it
+pub book-part : (h n a : ℕ) (l : List ℕ) → 1 ≤ h → h ≤ 7 → n ≡ vectorsOf h → a ≡ placeOf h → FractionsLoaded l
+    → let t = take (a + 6 * n - a) (drop a l) in (length t ≡ n * 6) × (floats t ≡ byComponent n (book h))
+book-part h n a l p q en ea f =
+    let m : a + 6 * n - a ≡ 6 * n = omega arith in
+    let r = placed h n a p q en ea .room in
+    let w = f .whole in
+    let d = length-drop a l in
+    let size : length (take (6 * n) (drop a l)) ≡ 6 * n = length-take-le (6 * n) (drop a l) (omega arith) in
+    rw m (omega arith, rw (en, ea) (f .each h p q))
+
+-- what the search through it answers
+pub searched : (h k n : ℕ) (t : List ℕ) (x : List Float) (r : ℕ) → h ≡ k → n ≡ 2 ^ vqBits k → floats t ≡ byComponent n (book k)
+    → r ≡ searchBy (distanceIn x (floats t) n) n 0 0 (inf false) → r ≡ searchOf h x
+unfolding searchOf
+searched h k n t x r e en et er = rw (e, ← en) (er ∙ rw et (by-component n (book k) x))
