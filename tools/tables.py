@@ -12,6 +12,7 @@ ROOT = os.path.dirname(os.path.dirname(os.path.abspath(__file__)))
 CODE = os.path.join(ROOT, 'crates/tables/src/consts.rt')
 SPEC = os.path.join(ROOT, 'crates/tables/specs/Numbers.antt')
 FRACTIONS = os.path.join(ROOT, 'crates/fractions/src/consts.rt')
+SCALES = os.path.join(ROOT, 'crates/levels/src/consts.rt')
 
 
 def rust(folder):
@@ -58,10 +59,36 @@ def code_text(tables):
     return '\n'.join(lines) + '\n'
 
 
+def pattern(x):
+    """The bits of an f32."""
+    return struct.unpack('<I', struct.pack('<f', x))[0]
+
+
 def fractions(numbers):
     """A book in component order, each number / 32768 as the bit pattern of its f32."""
     n = len(numbers) // 6
-    return [struct.unpack('<I', struct.pack('<f', numbers[6 * k + j] / 32768))[0] for j in range(6) for k in range(n)]
+    return [pattern(numbers[6 * k + j] / 32768) for j in range(6) for k in range(n)]
+
+
+def scales(tables):
+    """Eleven numbers for each hebap and gain: a and both b as fractions, the fractions 1 / 2^(m-1) and 1 / 2^(large - 1), the bits of small and of
+    large codes, the exact values of a step of each and of both b."""
+    by_name = {name: numbers for name, kind, numbers in tables}
+    out = []
+    for hebap in range(8, 20):
+        m = by_name['HEBAP_MANT_BITS'][hebap]
+        a1, a2, up2, below2, a4, up4, below4 = by_name['GAQ_REMAP'][7 * (hebap - 8):7 * (hebap - 8) + 7]
+        for a, up, below, small, large, e in ((a1, 0, 0, m - 2, m, 16), (a2, up2, below2, m - 1, m - 1, 17), (a4, up4, below4, m - 2, m, 16)):
+            out.append([pattern(x / 32768) for x in (a, up, below)] + [pattern(2.0 ** (1 - m)), pattern(2.0 ** (1 - large)), small, large,
+                        2 ** (31 - m), (32768 + a) * 2 ** (e - m), up * 2 ** 15, -below * 2 ** 15])
+    return out
+
+
+def scales_text(tables):
+    lines = ['// What the codes of a hebap and a gain have in common: a row for each of hebap 8 to 19 at Gk 1, 2 and 4. Made by tools/tables.py.', '',
+             '// a and b (for x >= 0 and for x < 0) as fractions, 1 / 2^(m-1) and 1 / 2^(bits of a large code - 1), all by bit patterns; the bits of small and',
+             '// of large codes; a step of each and both b, the second by its size, in units of 2^-30.', 'pub const SCALES: [u32; 396] = [']
+    return '\n'.join(lines + ['    %d,' % x for row in scales(tables) for x in row] + ['];']) + '\n'
 
 
 def fractions_text(tables):
@@ -109,6 +136,7 @@ def main():
         open(CODE, 'w', encoding='utf-8').write(code_text(tables))
         open(SPEC, 'w', encoding='utf-8').write(spec_text(tables))
         open(FRACTIONS, 'w', encoding='utf-8').write(fractions_text(tables))
+        open(SCALES, 'w', encoding='utf-8').write(scales_text(tables))
         return
     code, spec, by_component = ours()
     numbers = wrong = 0

@@ -84,6 +84,14 @@ fn four_bytes(src: &[u8], q: usize) -> u32
         + byte_at(src, q + 3)
 }
 
+// The number that n bits show, from the bit r of the byte q on, where they stand in four bytes.
+fn from_four(src: &[u8], q: usize, r: u32, n: u32) -> u32
+    requires { ⌜ (0 < n) × (r + n < 32) × (q + 4 ≤ length (now src)) ⌝ }
+    ensures { λ v. ⌜ v ≡ numberOf (take n (drop (8 * q + r) (bitsOf (now (src .entry))))) ⌝ }
+{
+    (four_bytes(src, q) >> (32 - r - n)) % pow2(n)
+}
+
 // The number that n bits show, from the bit r of the byte q on: out of four bytes at once where that will do.
 fn number_at(src: &[u8], q: usize, r: u32, n: u32) -> u32
     requires { ⌜ (n ≤ 32) × (r < 8) × (8 * q + r + n ≤ 8 * length (now src)) ⌝ }
@@ -92,7 +100,7 @@ fn number_at(src: &[u8], q: usize, r: u32, n: u32) -> u32
     if 0 < n {
         if r + n < 32 {
             if q + 4 <= src.len() {
-                return (four_bytes(src, q) >> (32 - r - n)) % pow2(n);
+                return from_four(src, q, r, n);
             }
         }
     }
@@ -148,6 +156,18 @@ impl BitPos {
         whole + (part + 7) / 8 <= len - q
     }
 
+    // Whether n bits stand in len bytes from this position on, where it is not past their end: with four bytes ahead nothing is counted.
+    pub fn holds_few(self, len: usize, n: u32) -> bool
+        requires { ⌜ (n ≤ 24) × (self .bit < 8) × (self .byte ≤ len) × (len < 2 ^ 63) ⌝ }
+        ensures { λ r. ⌜ r ≡ leb (bitAt self + n) (8 * len) ⌝ }
+    {
+        let byte = self.byte;
+        if byte + 4 <= len {
+            return true;
+        }
+        self.holds(len, 1, n as usize)
+    }
+
     // The position behind count numbers of width bits, of which holds has said that they are there.
     pub fn after(self, width: u32, count: usize) -> BitPos
         requires { ⌜ width ≤ 7 ⌝ }
@@ -171,6 +191,29 @@ impl BitPos {
         let byte = self.byte;
         let bit = self.bit;
         number_at(src, byte + (bit / 8) as usize, bit % 8, n)
+    }
+
+    // The position n bits on, for a position whose bit is below 8: fewer steps than `after`.
+    pub fn past(self, n: u32) -> BitPos
+        requires { ⌜ (self .bit < 8) × (n ≤ 65536) × (self .byte < 2 ^ 63) ⌝ }
+        ensures { λ r. ⌜ r ≡ posOf (bitAt self + n) ⌝ }
+    {
+        let byte = self.byte;
+        let bit = self.bit;
+        BitPos {
+            byte: byte + ((bit + n) / 8) as usize,
+            bit: (bit + n) % 8,
+        }
+    }
+
+    // The number that the next n bits show, where four bytes are there: no test, for loops that have made theirs before.
+    pub fn short_number(self, src: &[u8], n: u32) -> u32
+        requires { ⌜ (0 < n) × (n ≤ 24) × (self .bit < 8) × (self .byte + 4 ≤ length (now src)) ⌝ }
+        ensures { λ v. ⌜ v ≡ numberOf (take n (drop (bitAt self) (bitsOf (now (src .entry))))) ⌝ }
+    {
+        let byte = self.byte;
+        let bit = self.bit;
+        from_four(src, byte, bit, n)
     }
 
     // The next n bits as an unsigned number. Refuses with 12, then 8.

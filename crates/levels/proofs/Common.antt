@@ -6,8 +6,8 @@ use mathlib.Core.Logic.{_⊎_, inl, inr}
 use native.Mathlib.Nat.{mul-assoc, mul-zero}
 use native.Mathlib.Omega.{arith}
 use lib.Dec.{eqb}
-use lib.IntN.{ℤ, pos, negsuc, negℤ, _+ℤ_, _*ℤ_}
-use lib.Ieee.{Float, binary32, ofInt, mul, div}
+use lib.IntN.{ℤ, pos, negsuc, negℤ, _+ℤ_, _*ℤ_, +ℤ-idr}
+use lib.Ieee.{Float, binary32, ofInt, add, mul, div, le}
 use lib.Pow.{pow-lt}
 use mir.Syntax.{w32}
 use mir.Val.{toZ, ofZ}
@@ -17,8 +17,8 @@ use Rattle.levels.specs.declared.Code.{Code}
 use Rattle.levels.specs.declared.Remap.{Remap}
 use Rattle.levels.specs.declared.CodeScale.{CodeScale}
 use Rattle.levels.specs.Codes.{signed, smallBits, largeBits}
-use Rattle.levels.specs.Exact.{slope, offset, offsetBelow, offsetBySign}
-use Rattle.levels.specs.Value.{f1, power, scaled, divided, smallValue, levelOf, valueOf}
+use Rattle.levels.specs.Exact.{slope, offset, offsetBelow, offsetBySign, isNegative, exactOf}
+use Rattle.levels.specs.Value.{f0, f1, power, scaled, divided, smallValue, levelOf, valueOf}
 use Rattle.levels.specs.Work.{remapOf, remapBy, scaleOf}
 use Rattle.levels.proofs.Signed.{back, large-width}
 use Rattle.levels.proofs.Sizes.{mag-abs, abs-mul, unit-size, offset-size}
@@ -87,19 +87,19 @@ module _ (h g : ℕ) (s : CodeScale) (e : s ≡ scaleOf h g) where
   unfolding scaleOf
   large-part-is = ap (λ (t : CodeScale). t .«large_part») e
 
-  small-unit-is : s .«small_unit» ≡ pos (2 ^ (31 - mantBits h))
+  pub small-unit-is : s .«small_unit» ≡ pos (2 ^ (31 - mantBits h))
   unfolding scaleOf
   small-unit-is = ap (λ (t : CodeScale). t .«small_unit») e
 
-  large-unit-is : s .«large_unit» ≡ (pos 32768 +ℤ slope h g) *ℤ pos (2 ^ (cond (eqb g 2) 17 16 - mantBits h))
+  pub large-unit-is : s .«large_unit» ≡ (pos 32768 +ℤ slope h g) *ℤ pos (2 ^ (cond (eqb g 2) 17 16 - mantBits h))
   unfolding scaleOf
   large-unit-is = ap (λ (t : CodeScale). t .«large_unit») e
 
-  up-is : s .up ≡ offsetBySign h g false *ℤ pos (2 ^ 15)
+  pub up-is : s .up ≡ offsetBySign h g false *ℤ pos (2 ^ 15)
   unfolding scaleOf
   up-is = ap (λ (t : CodeScale). t .up) e
 
-  below-is : s .below ≡ offsetBySign h g true *ℤ pos (2 ^ 15)
+  pub below-is : s .below ≡ offsetBySign h g true *ℤ pos (2 ^ 15)
   unfolding scaleOf
   below-is = ap (λ (t : CodeScale). t .below) e
 
@@ -145,3 +145,29 @@ module _ (h g : ℕ) (s : CodeScale) (e : s ≡ scaleOf h g) where
         two : (t : Bool) → 1 ≤ cond t (mantBits h - 1) (mantBits h) - 1
         two true = let m = mant-bits h low high in omega arith
         two false = let m = mant-bits h low high in omega arith
+
+-- ---- Gk 1: b is 0 on both sides
+module _ (h : ℕ) (s : CodeScale) (e : s ≡ scaleOf h 1) (low : 8 ≤ h) (high : h ≤ 19) where
+  pub fixed-value-by : (u : ℕ) (k : ℤ) → k ≡ signed (mantBits h) u → let x = mul binary32 (ofInt binary32 k) (s .«large_part») in
+      add binary32 (add binary32 x (mul binary32 (s .remap .a) x)) (s .remap .up) ≡ valueOf h 1 (Code.Large u)
+  unfolding remapBy remapOf
+  fixed-value-by u k q =
+      let x = mul binary32 (ofInt binary32 k) (s .«large_part») in
+      let b : s .remap .below ≡ s .remap .up = rw (remap-is h 1 s e) in
+      one (le f0 x) b ∙ large-value-by h 1 s e low high u k q
+    where
+      one : (t : Bool) → s .remap .below ≡ s .remap .up → let x = mul binary32 (ofInt binary32 k) (s .«large_part») in
+          add binary32 (add binary32 x (mul binary32 (s .remap .a) x)) (s .remap .up)
+          ≡ add binary32 (add binary32 x (mul binary32 (s .remap .a) x)) (cond t (s .remap .up) (s .remap .below))
+      one true b = refl
+      one false b = rw b
+
+pub fixed-exact-by : (h u : ℕ) → let l = signed (mantBits h) u in l *ℤ ((pos 32768 +ℤ slope h 1) *ℤ pos (2 ^ (16 - mantBits h))) ≡ exactOf h 1 (Code.Large u)
+unfolding exactOf
+fixed-exact-by h u =
+    let l = signed (mantBits h) u in
+    times-assoc l (pos 32768 +ℤ slope h 1) (2 ^ (16 - mantBits h)) ∙ sym (none (isNegative l) (l *ℤ (pos 32768 +ℤ slope h 1) *ℤ pos (2 ^ (16 - mantBits h))))
+  where
+    none : (t : Bool) (x : ℤ) → x +ℤ offsetBySign h 1 t *ℤ pos (2 ^ 15) ≡ x
+    none true x = +ℤ-idr x
+    none false x = +ℤ-idr x

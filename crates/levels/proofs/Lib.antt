@@ -7,3 +7,4 @@ pub mod CodeLaws
 pub mod Range
 pub mod Remapping
 pub mod Common
+pub mod ScaleRows

@@ -29,7 +29,7 @@ pub abs-mag : (z : ℤ) → natAbs z ≤ suc (mag z)
 abs-mag (pos n) = omega arith
 abs-mag (negsuc n) = omega arith
 
-abs-neg : (n : ℕ) → natAbs (negℤ (pos n)) ≡ n
+pub abs-neg : (n : ℕ) → natAbs (negℤ (pos n)) ≡ n
 abs-neg zero = refl
 abs-neg (suc n) = refl
 

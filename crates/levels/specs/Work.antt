@@ -1,10 +1,13 @@
 -- How values and bits of codes are found fast: no meaning of its own. What holds is said by Codes, Exact and Value; the laws that join them are
 -- `remap-by` (proofs/Remapping.antt), those of proofs/Common.antt, and the writer's `word-bits`.
-use Prim.Native.Nat.{ℕ, _+_, _-_, _*_, _^_}
-use mathlib.Core.Bool.{cond}
+use Prim.Native.Nat.{ℕ, _+_, _-_, _*_, _^_, _≤_}
+use mathlib.Core.Path.{_≡_}
+use mathlib.Core.Bool.{false, cond}
+use mathlib.Core.List.{List}
 use lib.Dec.{eqb}
-use lib.IntN.{pos, _+ℤ_, _*ℤ_}
-use lib.Ieee.{Float, binary32, add, mul, div, le}
+use lib.IntN.{pos, negℤ, _+ℤ_, _*ℤ_}
+use lib.ListN.{length, getD}
+use lib.Ieee.{Float, binary32, ofBits, nanBits, add, mul, div, le}
 use Rattle.tables.specs.Tables.{mantBits}
 use Rattle.levels.specs.declared.Code.{Code}
 use Rattle.levels.specs.declared.CodeScale.{CodeScale}
@@ -39,3 +42,29 @@ scaleOf h g =
       up = offset h g *ℤ pos (2 ^ 15);
       below = offsetBelow h g *ℤ pos (2 ^ 15);
     }
+
+-- ---- the same as a table, made once and lent: a row of eleven numbers for each hebap and gain
+-- where the row of a hebap and a gain starts
+abbrev pub rowOf : ℕ → ℕ → ℕ
+rowOf h g = 33 * (h - 8) + cond (eqb g 1) 0 (cond (eqb g 2) 11 22)
+
+-- the row from the place i on: fractions by their bit patterns, b for numbers below 0 by its size
+unfoldable pub scaleAt : List ℕ → ℕ → CodeScale
+scaleAt t i =
+    record {
+      remap = record { a = ofBits binary32 (getD t i 0); up = ofBits binary32 (getD t (i + 1) 0); below = ofBits binary32 (getD t (i + 2) 0) };
+      small = getD t (i + 5) 0;
+      large = getD t (i + 6) 0;
+      «small_part» = ofBits binary32 (getD t (i + 3) 0);
+      «large_part» = ofBits binary32 (getD t (i + 4) 0);
+      «small_unit» = pos (getD t (i + 7) 0);
+      «large_unit» = pos (getD t (i + 8) 0);
+      up = pos (getD t (i + 9) 0);
+      below = negℤ (pos (getD t (i + 10) 0));
+    }
+
+-- every row is the scale of its hebap and gain, and no number is a NaN's pattern: `from_bits` is not defined there
+pub record ScalesLoaded (t : List ℕ) : Type 0 where
+  pub whole : length t ≡ 396
+  pub numbers : (i : ℕ) → nanBits binary32 (getD t i 0) ≡ false
+  pub each : (h g : ℕ) → 8 ≤ h → h ≤ 19 → scaleAt t (rowOf h g) ≡ scaleOf h g

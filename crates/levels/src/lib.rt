@@ -1,16 +1,20 @@
 // The levels of a scalar mantissa: its codes, and their f32 and exact values.
 ghost use mathlib.Core.Path.{_≡_};
-ghost use mathlib.Core.Bool.{cond, not};
-ghost use Prim.Native.Nat.{_-_, _*_, _<_, _≤_, _^_};
+ghost use mathlib.Core.Bool.{false, cond, not};
+ghost use Prim.Native.Nat.{_+_, _-_, _*_, _<_, _≤_, _^_};
 ghost use lib.Dec.{eqb};
 ghost use lib.IntN.{pos, natAbs, _+ℤ_, _*ℤ_};
+ghost use lib.ListN.{length, getD};
+ghost use lib.Ieee.{ofBits, binary32, nanBits};
 ghost use lib.Signed.{mag};
 ghost use Rattle.tables.specs.Tables.{mantBits};
 ghost use Rattle.levels.specs.Component.{tooLarge, someTooLarge};
 ghost use Rattle.levels.specs.Codes.{signed, smallBits, largeBits, codeBits, Accepted};
 ghost use Rattle.levels.specs.Exact.{slope, offsetBySign, exactOf};
-ghost use Rattle.levels.specs.Value.{q15 as q15Of, power, gaqRemap, levelOf, divided, valueIn};
-ghost use Rattle.levels.specs.Work.{remapOf, remapBy, scaleOf};
+ghost use Rattle.levels.specs.Value.{q15 as q15Of, power, gaqRemap, levelOf, divided, valueIn, valueOf};
+ghost use Rattle.levels.specs.Work.{remapOf, remapBy, scaleOf, rowOf, ScalesLoaded};
+
+mod consts;
 
 // A code by its bits: a small one, or a large one (behind the tag at Gk 2 and 4; at Gk 1 every code is large).
 pub enum Code {
@@ -270,6 +274,77 @@ pub fn scale_of(hebap: u8, gk: u8) -> CodeScale
     }
 }
 
+// The scales of all hebaps and gains, a row each: where many bins are read, they are made once and lent, since working one out takes longer than
+// reading a bin.
+pub fn scales() -> [u32; 396]
+    ensures { λ r. ⌜ ScalesLoaded r ⌝ }
+{
+    consts::SCALES
+}
+
+// The number k of the row from the place i on: as it stands, as a fraction, and as a whole number.
+fn entry(t: &[u32], i: usize, k: usize) -> u32
+    requires { ⌜ (k < 11) × (i + 11 ≤ length (now t)) ⌝ }
+    ensures { λ r. ⌜ r ≡ getD (now (t .entry)) (i + k) 0 ⌝ }
+{
+    t[i + k]
+}
+
+fn fraction(t: &[u32], i: usize, k: usize) -> f32
+    requires { ⌜ (k < 11) × (i + 11 ≤ length (now t)) ⌝ }
+    requires { ⌜ nanBits binary32 (getD (now t) (i + k) 0) ≡ false ⌝ }
+    ensures { λ r. ⌜ r ≡ ofBits binary32 (getD (now (t .entry)) (i + k) 0) ⌝ }
+{
+    f32::from_bits(entry(t, i, k))
+}
+
+fn whole(t: &[u32], i: usize, k: usize) -> i32
+    requires { ⌜ (k < 11) × (i + 11 ≤ length (now t)) ⌝ }
+    requires { ⌜ getD (now t) (i + k) 0 < 2 ^ 31 ⌝ }
+    ensures { λ r. ⌜ r ≡ pos (getD (now (t .entry)) (i + k) 0) ⌝ }
+{
+    entry(t, i, k) as i32
+}
+
+// Where the row of a hebap and a gain starts.
+fn row_of(hebap: u8, gk: u8) -> usize
+    requires { ⌜ (8 ≤ hebap) × (hebap ≤ 19) ⌝ }
+    ensures { λ r. ⌜ r ≡ rowOf hebap gk ⌝ }
+{
+    let i = 33 * (hebap as usize - 8);
+    if gk == 1 {
+        return i;
+    }
+    if gk == 2 {
+        return i + 11;
+    }
+    i + 22
+}
+
+// The scale of a hebap and a gain, out of the table.
+pub fn scale_at(t: &[u32], hebap: u8, gk: u8) -> CodeScale
+    requires { ⌜ (8 ≤ hebap) × (hebap ≤ 19) ⌝ }
+    requires { ⌜ ScalesLoaded (now t) ⌝ }
+    ensures { λ r. ⌜ r ≡ scaleOf hebap gk ⌝ }
+{
+    let i = row_of(hebap, gk);
+    CodeScale {
+        remap: Remap {
+            a: fraction(t, i, 0),
+            up: fraction(t, i, 1),
+            below: fraction(t, i, 2),
+        },
+        small: entry(t, i, 5),
+        large: entry(t, i, 6),
+        small_part: fraction(t, i, 3),
+        large_part: fraction(t, i, 4),
+        small_unit: whole(t, i, 7),
+        large_unit: whole(t, i, 8),
+        up: whole(t, i, 9),
+        below: -whole(t, i, 10),
+    }
+}
+
 // The kind and the f32 value of a code. hebap and gk say whose scale s is.
 pub fn level_of(s: CodeScale, hebap: u8, gk: u8, code: Code) -> Level
     requires { ⌜ (8 ≤ hebap) × (hebap ≤ 19) ⌝ }
@@ -300,4 +375,25 @@ pub fn exact_value(s: CodeScale, hebap: u8, gk: u8, code: Code) -> i32
             times(k, s.large_unit) + b
         }
     }
+}
+
+// ---- codes of Gk 1, which are all large and have b 0: nothing to choose by their sign
+
+pub fn fixed_value(s: CodeScale, hebap: u8, u: u32) -> f32
+    requires { ⌜ (8 ≤ hebap) × (hebap ≤ 19) ⌝ }
+    requires { ⌜ s ≡ scaleOf hebap 1 ⌝ }
+    requires { ⌜ u < 2 ^ mantBits hebap ⌝ }
+    ensures { λ r. ⌜ r ≡ valueOf hebap 1 (Code.Large u) ⌝ }
+{
+    let x = signed_code(u, s.large) as f32 * s.large_part;
+    x + s.remap.a * x + s.remap.up
+}
+
+pub fn fixed_exact(s: CodeScale, hebap: u8, u: u32) -> i32
+    requires { ⌜ (8 ≤ hebap) × (hebap ≤ 19) ⌝ }
+    requires { ⌜ s ≡ scaleOf hebap 1 ⌝ }
+    requires { ⌜ u < 2 ^ mantBits hebap ⌝ }
+    ensures { λ r. ⌜ r ≡ exactOf hebap 1 (Code.Large u) ⌝ }
+{
+    times(signed_code(u, s.large), s.large_unit)
 }

@@ -5,4 +5,5 @@ pub mod Escape
 pub mod Steps
 pub mod Sweep
 pub mod Chosen
+pub mod Kept
 pub mod Answer

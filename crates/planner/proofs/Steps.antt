@@ -17,7 +17,7 @@ use Rattle.gains.specs.declared.Coding.{Coding}
 use Rattle.planner.specs.Bins.{sumOver}
 use Rattle.planner.specs.Cost.{componentBits, sixBits}
 use Rattle.planner.specs.Choice.{cheaper, cheapest}
-use Rattle.planner.specs.Work.{sizeOf, limitOf, limitsOf, costsOf, costIn, gainIn, codedBits, leastIn, withBin, payloadIn, modeIn}
+use Rattle.planner.specs.Work.{sizeOf, limitOf, limitsOf, tagged, taggedBits, costsOf, costIn, gainIn, codedBits, leastIn, withBin, payloadIn, modeIn}
 use Rattle.planner.specs.declared.Costs.{Costs}
 use Rattle.planner.specs.declared.Limits.{Limits}
 use Rattle.planner.specs.declared.Tally.{Tally}
@@ -111,23 +111,36 @@ pub six-one : (h : ℕ) (x : List Float) (a : ℕ) → 6 * mantBits h ≡ sixBit
 unfolding sixBits scalarBits
 six-one h x a = sym (sum-run (componentBits h 1 x) (mantBits h) a 6 (λ k. component-is h 1 x k))
 
--- one for a component that takes the tag
-abbrev pub tagged : Float → List Float → ℕ → ℕ
-tagged limit x k = cond (le limit (sizeOf (getD x k nan))) 1 0
+module _ (h : ℕ) (x : List Float) (a m : ℕ) (l : Limits) (low : 8 ≤ h) (high : h ≤ 16) (em : m ≡ mantBits h) (el : l ≡ limitsOf h) (f : (k : ℕ) → T (fits binary32 (getD x k nan))) where
+  pub costs-gain : (two four : ℕ) → two ≡ taggedBits x a (l .two) (m - 1) (m - 1) → four ≡ taggedBits x a (l .four) (m - 2) m
+      → _≡_ {A = Costs} (record { one = 6 * m; two = two; four = four }) (costsOf h x a)
+  unfolding costsOf sixBits taggedBits
+  costs-gain two four e2 e4 =
+      let o : 6 * m ≡ sixBits h x a 1 = ap (λ (k : ℕ). 6 * k) em ∙ six-one h x a in
+      let r2 : two ≡ sixBits h x a 2 =
+      e2 ∙ sym (sum-counted (componentBits h 2 x) (λ k. le (l .two) (sizeOf (getD x k nan))) (m - 1) (m - 1) a 6 (λ k. component-is h 2 x k ∙ two-is h m (getD x k nan) low high em (f k) l el)) in
+      let r4 : four ≡ sixBits h x a 4 =
+      e4 ∙ sym (sum-counted (componentBits h 4 x) (λ k. le (l .four) (sizeOf (getD x k nan))) (m - 2) m a 6 (λ k. component-is h 4 x k ∙ four-is h m (getD x k nan) low high em (f k) l el)) in
+      rw (le-leb 8 h low, le-leb h 16 high, o, r2, r4)
 
-pub costs-gain : (h : ℕ) (x : List Float) (a m : ℕ) (l : Limits) (two four : ℕ) → 8 ≤ h → h ≤ 16 → m ≡ mantBits h → l ≡ limitsOf h → ((k : ℕ) → T (fits binary32 (getD x k nan)))
-    → two ≡ sumOver (tagged (l .two) x) a (a + 6) → four ≡ sumOver (tagged (l .four) x) a (a + 6)
-    → _≡_ {A = Costs} (record { one = 6 * m; two = (6 + two) * (m - 1); four = 6 * (m - 2) + four * m }) (costsOf h x a)
-unfolding costsOf sixBits
-costs-gain h x a m l two four low high em el f e2 e4 =
-    let o : 6 * m ≡ sixBits h x a 1 = ap (λ (k : ℕ). 6 * k) em ∙ six-one h x a in
-    let c2 : sixBits h x a 2 ≡ 6 * (m - 1) + sumOver (tagged (l .two) x) a (a + 6) * (m - 1) =
-    sum-counted (componentBits h 2 x) (λ k. le (l .two) (sizeOf (getD x k nan))) (m - 1) (m - 1) a 6 (λ k. component-is h 2 x k ∙ two-is h m (getD x k nan) low high em (f k) l el) in
-    let c4 : sixBits h x a 4 ≡ 6 * (m - 2) + sumOver (tagged (l .four) x) a (a + 6) * m =
-    sum-counted (componentBits h 4 x) (λ k. le (l .four) (sizeOf (getD x k nan))) (m - 2) m a 6 (λ k. component-is h 4 x k ∙ four-is h m (getD x k nan) low high em (f k) l el) in
-    let r2 : (6 + two) * (m - 1) ≡ sixBits h x a 2 = add-mul 6 two (m - 1) ∙ ap (λ (c : ℕ). 6 * (m - 1) + c * (m - 1)) e2 ∙ sym c2 in
-    let r4 : 6 * (m - 2) + four * m ≡ sixBits h x a 4 = ap (λ (c : ℕ). 6 * (m - 2) + c * m) e4 ∙ sym c4 in
-    rw (le-leb 8 h low, le-leb h 16 high, o, r2, r4)
+  -- ---- at one gain
+  costs-at : (g : ℕ) → costIn (record { one = 6 * m; two = taggedBits x a (l .two) (m - 1) (m - 1); four = taggedBits x a (l .four) (m - 2) m }) g ≡ costIn (costsOf h x a) g
+  costs-at g = ap (λ (c : Costs). costIn c g) (costs-gain (taggedBits x a (l .two) (m - 1) (m - 1)) (taggedBits x a (l .four) (m - 2) m) refl refl)
+
+  pub bits-at-1 : (g : ℕ) → g ≡ 1 → 6 * m ≡ costIn (costsOf h x a) g
+  unfolding costIn
+  bits-at-1 g e = rw e (costs-at 1)
+
+  pub bits-at-2 : (g r : ℕ) → g ≡ 2 → r ≡ taggedBits x a (l .two) (m - 1) (m - 1) → r ≡ costIn (costsOf h x a) g
+  unfolding costIn
+  bits-at-2 g r e er = rw e (er ∙ costs-at 2)
+
+  pub bits-at-4 : (g r : ℕ) → (g ≡ 1 → ⊥) → (g ≡ 2 → ⊥) → r ≡ taggedBits x a (l .four) (m - 2) m → r ≡ costIn (costsOf h x a) g
+  unfolding costIn
+  bits-at-4 g r n1 n2 er =
+      let c : Costs = record { one = 6 * m; two = taggedBits x a (l .two) (m - 1) (m - 1); four = taggedBits x a (l .four) (m - 2) m } in
+      let s : costIn c g ≡ c .four = rw (ne-eqb g 1 n1, ne-eqb g 2 n2) in
+      er ∙ sym s ∙ costs-at g
 
 module _ (h : ℕ) (x : List Float) (a m : ℕ) (em : m ≡ mantBits h) where
   no-gain : leb 8 h && leb h 16 ≡ false → _≡_ {A = Costs} (record { one = 6 * m; two = 0; four = 0 }) (costsOf h x a)

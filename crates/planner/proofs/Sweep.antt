@@ -1,16 +1,15 @@
--- The loops over the bins: the tally of all modes, and the gains of one. Assumes nothing.
+-- The loop over the bins: the tally of all modes. Assumes nothing.
 use mathlib.Core.Path.{_≡_, refl, sym, ap, _∙_, subst}
 use mathlib.Core.Bool.{Bool, true, false, not, _&&_, _||_, cond, true≢false}
-use mathlib.Core.List.{List, [], _∷_, _++_, append-assoc}
+use mathlib.Core.List.{List, [], _∷_}
 use mathlib.Core.Logic.{⊎-elim, inl, inr}
-use Prim.Native.Nat.{ℕ, suc, _+_, _-_, _*_, _≤_, _<_}
+use Prim.Native.Nat.{ℕ, _+_, _-_, _*_, _≤_, _<_}
 use native.Mathlib.Nat.{le-refl, le-trans, le-of-eq, le-antisymm, add-zero}
 use native.Mathlib.Numerals.{add-one}
 use native.Mathlib.Omega.{arith}
 use borrow.Author.Tests.{le-leb, lt-leb, ne-eqb, eqb-true}
 use lib.Dec.{leb, eqb}
-use lib.ListN.{length, getD, take, drop, set, length-append, length-set}
-use lib.Seq.{set-at, drop-cons}
+use lib.ListN.{getD, take, drop}
 use lib.Ieee.{Float, nan}
 use Rattle.tables.specs.Tables.{mantBits, vqBits}
 use Rattle.tables.proofs.Rules.{mant-bits, mant-none, vq-most}
@@ -24,12 +23,12 @@ use Rattle.gains.proofs.Cases.{active-range, three-gains}
 use Rattle.planner.specs.Bins.{sumOver}
 use Rattle.planner.specs.Planning.{tooLargeAt}
 use Rattle.planner.specs.Cost.{componentBits, sixBits, binBits}
-use Rattle.planner.specs.Choice.{activeAt, activeCount, bestGain, leastAt, leastOf, planMode, gainsOver, planPayload}
+use Rattle.planner.specs.Choice.{activeAt, activeCount, bestGain, leastAt, leastOf, planMode, planPayload}
 use Rattle.planner.specs.Work.{costsOf, costIn, gainIn, codedBits, leastIn, tallyOf, withBin, payloadIn, modeIn, Bounded}
 use Rattle.planner.specs.declared.Costs.{Costs}
 use Rattle.planner.specs.declared.Tally.{Tally}
 use Rattle.planner.proofs.Over.{sum-none, sum-next, sum-at-most}
-use Rattle.planner.proofs.Optimal.{cheapest-in, cheapest-same, one-of, gains-step, gains-stay, gains-none, gains-length}
+use Rattle.planner.proofs.Optimal.{cheapest-in, cheapest-same, one-of}
 use Rattle.planner.proofs.Codes.{component-is}
 use Rattle.planner.proofs.Steps.{sum-run-le}
 
@@ -148,7 +147,7 @@ pub tally-end : (row : List ℕ) (x : List Float) (start i end : ℕ) (t : Tally
 tally-end row x start i end t a b q = q ∙ ap (tallyOf row x start) (le-antisymm a b)
 
 -- ---- the mode
-four-modes : (i : ℕ) (P : ℕ → Type 0) → member i (0 ∷ 1 ∷ 2 ∷ 3 ∷ []) ≡ true → P 0 → P 1 → P 2 → P 3 → P i
+pub four-modes : (i : ℕ) (P : ℕ → Type 0) → member i (0 ∷ 1 ∷ 2 ∷ 3 ∷ []) ≡ true → P 0 → P 1 → P 2 → P 3 → P i
 four-modes i P h p0 p1 p2 p3 = one-of (eqb i 0) (eqb i 1) (eqb i 2 || (eqb i 3 || false)) h (at 0 p0) (at 1 p1) (λ q. one-of (eqb i 2) (eqb i 3) false q (at 2 p2) (at 3 p3) no)
   where
     at : (k : ℕ) → P k → eqb i k ≡ true → P i
@@ -172,64 +171,6 @@ unfolding planPayload planMode
 plan-payload row x start end t m p et em ep =
     ep ∙ ap (payloadIn t) em ∙ ap (λ (z : Tally). payloadIn z (planMode row x start end)) et
     ∙ payload-is row x start end (planMode row x start end) (cheapest-in (leastOf row x start end) 0 (1 ∷ 2 ∷ 3 ∷ []))
-
--- ---- the gains
--- l stands in the first places of g, and what was there before in the others
-pub record Filled (old now l : List ℕ) (n : ℕ) : Type 0 where
-  pub count : n ≡ length l
-  pub same : length now ≡ length old
-  pub is : now ≡ l ++ drop n old
-
-pub filled-next : (old now l : List ℕ) (n g : ℕ) → n < length old → Filled old now l n → Filled old (set now n g) (l ++ (g ∷ [])) (n + 1)
-filled-next old now l n g h f =
-    let c = f .count in
-    record {
-      count = sym (length-append l (g ∷ []) ∙ ap (λ (z : ℕ). z + 1) (sym c));
-      same = length-set now n g ∙ f .same;
-      is =
-          ap (λ (z : List ℕ). set z n g) (f .is ∙ ap (λ (z : List ℕ). l ++ z) (drop-cons old n 0 h))
-          ∙ set-at l (getD old n 0) (drop (suc n) old) g n (sym c)
-          ∙ sym (append-assoc l (g ∷ []) (drop (n + 1) old) ∙ ap (λ (z : ℕ). l ++ (g ∷ drop z old)) (add-one n));
-    }
-
-module _ (mode : ℕ) (row : List ℕ) (x : List Float) (start k : ℕ) (old now : List ℕ) (n : ℕ) (f : Filled old now (gainsOver mode row x start k) n) (low : start ≤ k) where
-  pub filled-room : n ≤ k
-  unfolding activeCount activeAt
-  filled-room =
-      let c = f .count in
-      let l = gains-length mode row x start k in
-      let b = sum-at-most (activeAt mode row) 1 start k (λ j h. at-most (active mode (getD row j 0))) in
-      omega arith
-    where
-      at-most : (t : Bool) → cond {A = ℕ} t 1 0 ≤ 1
-      at-most true = omega arith
-      at-most false = omega arith
-
-  pub filled-active : (t : Bool) (c : Costs) (g : ℕ) → n < length old → t ≡ active mode (getD row k 0) → t ≡ true → c ≡ costsOf (getD row k 0) x (6 * k) → g ≡ gainIn mode c
-      → Filled old (set now n g) (gainsOver mode row x start (k + 1)) (n + 1)
-  filled-active t c g h et tt′ ec eg =
-      let a : active mode (getD row k 0) ≡ true = sym et ∙ tt′ in
-      let e : g ≡ bestGain mode row x k = eg ∙ ap (gainIn mode) ec ∙ gain-is mode row x k a in
-      let s : gainsOver mode row x start (k + 1) ≡ gainsOver mode row x start k ++ (g ∷ []) =
-      ap (gainsOver mode row x start) (add-one k) ∙ gains-step mode row x start k low a ∙ ap (λ (z : ℕ). gainsOver mode row x start k ++ (z ∷ [])) (sym e) in
-      subst (λ (l : List ℕ). Filled old (set now n g) l (n + 1)) (sym s) (filled-next old now (gainsOver mode row x start k) n g h f)
-
-  pub filled-fixed : (t : Bool) → t ≡ active mode (getD row k 0) → t ≡ false → Filled old now (gainsOver mode row x start (k + 1)) n
-  filled-fixed t et tf =
-      let s : gainsOver mode row x start (k + 1) ≡ gainsOver mode row x start k = ap (gainsOver mode row x start) (add-one k) ∙ gains-stay mode row x start k low (sym et ∙ tf) in
-      subst (λ (l : List ℕ). Filled old now l n) (sym s) f
-
-pub filled-start : (mode : ℕ) (row : List ℕ) (x : List Float) (start : ℕ) (old : List ℕ) → Filled old old (gainsOver mode row x start start) 0
-filled-start mode row x start old =
-    let e = gains-none mode row x start start (le-refl start) in
-    subst (λ (l : List ℕ). Filled old old l 0) (sym e) (record { count = refl; same = refl; is = refl })
-
-pub filled-end : (mode : ℕ) (row : List ℕ) (x : List Float) (start k end : ℕ) (old now : List ℕ) (n : ℕ) → k ≤ end → end ≤ k → Filled old now (gainsOver mode row x start k) n
-    → (n ≡ length (gainsOver mode row x start end)) × (now ≡ gainsOver mode row x start end ++ drop (length (gainsOver mode row x start end)) old)
-filled-end mode row x start k end old now n a b f =
-    let e = ap (gainsOver mode row x start) (le-antisymm a b) in
-    let c = f .count ∙ ap length e in
-    (c, f .is ∙ ap (λ (l : List ℕ). l ++ drop n old) e ∙ ap (λ (z : ℕ). gainsOver mode row x start end ++ drop z old) c)
 
 -- ---- cause 5 at a bin
 pub too-large-none : (row : List ℕ) (x : List Float) (k : ℕ) → getD row k 0 ≡ 0 → false ≡ tooLargeAt row x k

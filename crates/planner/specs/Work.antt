@@ -1,18 +1,19 @@
 -- What the planner works with on the way to Choice: the costs of a bin at each gain, and the bits of each mode. Document 01, Planner.
 use Prim.Native.Nat.{ℕ, _+_, _-_, _*_, _^_, _≤_}
 use mathlib.Core.Bool.{false, cond, _&&_}
-use mathlib.Core.List.{List, [], _∷_}
+use mathlib.Core.List.{List, [], _∷_, _++_}
 use lib.Dec.{eqb, leb}
 use lib.IntN.{negsuc}
-use lib.ListN.{length}
-use lib.Ieee.{Float, fin, lt, le, neg}
+use lib.ListN.{length, getD, drop, set}
+use lib.Ieee.{Float, nan, fin, lt, le, neg}
 use Rattle.tables.specs.Tables.{mantBits, vqBits}
 use Rattle.gains.specs.Gains.{active, codingOf, otherGains, gainWordBits}
 use Rattle.gains.specs.declared.Coding.{Coding}
 use Rattle.levels.specs.Value.{f0}
 use Rattle.planner.specs.Bins.{sumOver}
 use Rattle.planner.specs.Cost.{sixBits}
-use Rattle.planner.specs.Choice.{cheapest, leastAt, activeCount}
+use Rattle.planner.specs.Choice.{cheapest, leastAt, activeCount, gainsOver}
+use Rattle.planner.specs.Planning.{noGains}
 use Rattle.planner.specs.declared.Costs.{Costs}
 use Rattle.planner.specs.declared.Limits.{Limits}
 use Rattle.planner.specs.declared.Tally.{Tally}
@@ -30,6 +31,14 @@ unfoldable pub limitsOf : ℕ → Limits
 limitsOf h = let m = mantBits h in record { two = limitOf (m - 1) (m - 1); four = limitOf (m - 1) (m - 2) }
 
 -- ---- one bin
+-- one for a component that takes the tag
+abbrev pub tagged : Float → List Float → ℕ → ℕ
+tagged limit x k = cond (le limit (sizeOf (getD x k nan))) 1 0
+
+-- six codes of the bits small, and large more behind each tag
+unfoldable pub taggedBits : List Float → ℕ → Float → ℕ → ℕ → ℕ
+taggedBits x a limit small large = 6 * small + sumOver (tagged limit x) a (a + 6) * large
+
 -- six codes at Gk 1, 2 and 4; only hebap 8 to 16 may have a gain other than 1
 unfoldable pub costsOf : ℕ → List Float → ℕ → Costs
 costsOf h x a =
@@ -83,6 +92,24 @@ payloadIn t mode =
 unfoldable pub modeIn : Tally → ℕ
 modeIn t = cheapest (payloadIn t) 0 (1 ∷ 2 ∷ 3 ∷ [])
 
+-- ---- the gains of each mode, kept while the bins are gone through
+-- how many bins are active in a mode; modes 2 and 3 have the same
+unfoldable pub countIn : Tally → ℕ → ℕ
+countIn t mode = cond (eqb mode 0) 0 (cond (eqb mode 1) (t .active1) (t .active2))
+
+-- the gain of a bin at the place n, where it is active
+unfoldable pub withGain : ℕ → ℕ → Costs → ℕ → List ℕ → List ℕ
+withGain mode h c n gains = cond (active mode h) (set gains n (gainIn mode c)) gains
+
+-- the gains of a mode in the first places, and what was there before in the others
+unfoldable pub gainsKept : ℕ → List ℕ → List Float → ℕ → ℕ → List ℕ → List ℕ
+gainsKept mode row x start end old = gainsOver mode row x start end ++ drop (length (gainsOver mode row x start end)) old
+
+-- those of one mode; mode 0 has none
+unfoldable pub keptIn : ℕ → List ℕ → List ℕ → List ℕ → List ℕ
+keptIn mode g1 g2 g3 = cond (eqb mode 1) g1 (cond (eqb mode 2) g2 (cond (eqb mode 3) g3 noGains))
+
+-- ---- bounds
 -- so small that sums of them fit
 pub record Bounded (t : Tally) : Type 0 where
   pub bits0-is : t .bits0 ≤ 65536

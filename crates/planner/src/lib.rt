@@ -1,14 +1,13 @@
 // The plan of a channel: which mode and which gains take the fewest bits.
 ghost use mathlib.Core.Path.{_≡_};
 ghost use mathlib.Core.Bool.{true, false, cond};
-ghost use mathlib.Core.List.{_++_};
 ghost use Prim.Native.Nat.{_+_, _*_, _<_, _≤_};
-ghost use lib.ListN.{length, drop, getD};
+ghost use lib.ListN.{length, getD};
 ghost use Rattle.gains.specs.Gains.{codingOf};
 ghost use Rattle.planner.specs.Bins.{sumOver, someOver};
-ghost use Rattle.planner.specs.Choice.{cheaper, gainsOver, activeCount, chosenAt};
+ghost use Rattle.planner.specs.Choice.{cheaper, activeCount, chosenAt};
 ghost use Rattle.planner.specs.Fit.{wrongGain, planFits};
-ghost use Rattle.planner.specs.Work.{sizeOf, limitsOf, costsOf, costIn, gainIn, codedBits, leastIn, tallyOf, withBin, payloadIn, modeIn, Bounded, Within};
+ghost use Rattle.planner.specs.Work.{sizeOf, limitsOf, taggedBits, costsOf, costIn, gainIn, codedBits, leastIn, tallyOf, withBin, payloadIn, modeIn, countIn, withGain, gainsKept, keptIn, Bounded, Within};
 ghost use Rattle.planner.specs.Planning.{noGains, unknownAt, tooLargeAt, refusalOf, planOf, causeOf, planned};
 use gains::Coding;
 
@@ -105,8 +104,23 @@ fn one_if(b: bool) -> u32
     if b { 1 } else { 0 }
 }
 
-// The bits of six components at each gain, each looked at once: how many take the tag is counted, which the machine does for several
-// together.
+// Six codes of the bits small, and large more behind each tag. How many take the tag is counted, which the machine does for several together.
+fn tagged_bits(x: &[f32], a: usize, limit: f32, small: u32, large: u32) -> u32
+    requires { ⌜ a + 6 ≤ length (now x) ⌝ }
+    requires { ⌜ (small ≤ 16) × (large ≤ 16) ⌝ }
+    ensures { λ r. ⌜ r ≡ taggedBits (now (x .entry)) a limit small large ⌝ }
+{
+    let mut n: u32 = 0;
+    let mut i = a;
+    let end = a + 6;
+    while i < end {
+        n += one_if(size(x[i]) >= limit);
+        i += 1;
+    }
+    6 * small + n * large
+}
+
+// The bits of six components at each gain.
 fn gain_costs(hebap: u8, x: &[f32], a: usize) -> Costs
     requires { ⌜ (8 ≤ hebap) × (hebap ≤ 16) ⌝ }
     requires { ⌜ a + 6 ≤ length (now x) ⌝ }
@@ -114,20 +128,10 @@ fn gain_costs(hebap: u8, x: &[f32], a: usize) -> Costs
 {
     let m = levels::mant(hebap);
     let l = limits_for(hebap);
-    let mut two: u32 = 0;
-    let mut four: u32 = 0;
-    let mut i = a;
-    let end = a + 6;
-    while i < end {
-        let s = size(x[i]);
-        two += one_if(s >= l.two);
-        four += one_if(s >= l.four);
-        i += 1;
-    }
     Costs {
         one: 6 * m,
-        two: (6 + two) * (m - 1),
-        four: 6 * (m - 2) + four * m,
+        two: tagged_bits(x, a, l.two, m - 1, m - 1),
+        four: tagged_bits(x, a, l.four, m - 2, m),
     }
 }
 
@@ -210,9 +214,44 @@ fn add_bin(t: Tally, hebap: u8, c: Costs) -> Tally
     }
 }
 
-fn tally_bins(row: &[u8], start: usize, end: usize, x: &[f32]) -> Tally
+// How many bins of the tally are active in a mode.
+fn count_in(t: Tally, mode: u8) -> usize
+    ensures { λ r. ⌜ r ≡ countIn t mode ⌝ }
+{
+    match mode {
+        0 => 0,
+        1 => t.active1 as usize,
+        _ => t.active2 as usize,
+    }
+}
+
+// Where the bin is active its gain goes behind those of the bins that the tally has.
+fn keep_gain(mode: u8, hebap: u8, c: Costs, t: Tally, gains: &mut [u8])
+    requires { ⌜ countIn t mode < length (now gains) ⌝ }
+    ensures { λ r. ⌜ now (gains .exit) ≡ withGain mode hebap c (countIn t mode) (now (gains .entry)) ⌝ }
+{
+    if gains::is_active(mode, hebap) {
+        let n = count_in(t, mode);
+        gains[n] = best_gain(mode, c);
+    }
+}
+
+// The gains of modes 1, 2 and 3 are kept on the way, so that the costs of a bin are counted once.
+fn tally_bins(
+    row: &[u8],
+    start: usize,
+    end: usize,
+    x: &[f32],
+    g1: &mut [u8],
+    g2: &mut [u8],
+    g3: &mut [u8],
+) -> Tally
     requires { ⌜ Within (now row) start end (now x) ⌝ }
+    requires { ⌜ (end ≤ length (now g1)) × (end ≤ length (now g2)) × (end ≤ length (now g3)) ⌝ }
     ensures { λ r. ⌜ r ≡ tallyOf (now (row .entry)) (now (x .entry)) start end ⌝ }
+    ensures { λ r. ⌜ now (g1 .exit) ≡ gainsKept 1 (now (row .entry)) (now (x .entry)) start end (now (g1 .entry)) ⌝ }
+    ensures { λ r. ⌜ now (g2 .exit) ≡ gainsKept 2 (now (row .entry)) (now (x .entry)) start end (now (g2 .entry)) ⌝ }
+    ensures { λ r. ⌜ now (g3 .exit) ≡ gainsKept 3 (now (row .entry)) (now (x .entry)) start end (now (g3 .entry)) ⌝ }
 {
     let mut t = Tally {
         bits0: 0,
@@ -225,7 +264,11 @@ fn tally_bins(row: &[u8], start: usize, end: usize, x: &[f32]) -> Tally
     let mut bin = start;
     while bin < end {
         let hebap = row[bin];
-        t = add_bin(t, hebap, bin_costs(hebap, x, 6 * bin));
+        let c = bin_costs(hebap, x, 6 * bin);
+        keep_gain(1, hebap, c, t, &mut *g1);
+        keep_gain(2, hebap, c, t, &mut *g2);
+        keep_gain(3, hebap, c, t, &mut *g3);
+        t = add_bin(t, hebap, c);
         bin += 1;
     }
     t
@@ -262,41 +305,36 @@ fn best_mode(t: Tally) -> u8
     cheaper_mode(t, cheaper_mode(t, cheaper_mode(t, 0, 1), 2), 3)
 }
 
-// The gains of the active bins go to the first places; how many is returned.
-fn fill_gains(row: &[u8], start: usize, end: usize, x: &[f32], mode: u8, gains: &mut [u8]) -> usize
-    requires { ⌜ Within (now row) start end (now x) ⌝ }
-    requires { ⌜ length (now gains) ≡ 256 ⌝ }
-    ensures { λ r. ⌜ r ≡ length (gainsOver mode (now (row .entry)) (now (x .entry)) start end) ⌝ }
-    ensures { λ r. ⌜ now (gains .exit) ≡ gainsOver mode (now (row .entry)) (now (x .entry)) start end ++ drop (length (gainsOver mode (now (row .entry)) (now (x .entry)) start end)) (now (gains .entry)) ⌝ }
-{
-    let mut n: usize = 0;
-    let mut bin = start;
-    while bin < end {
-        let hebap = row[bin];
-        if gains::is_active(mode, hebap) {
-            gains[n] = best_gain(mode, gain_costs(hebap, x, 6 * bin));
-            n += 1;
-        }
-        bin += 1;
-    }
-    n
-}
-
 pub fn no_gains() -> [u8; 256]
     ensures { λ r. ⌜ r ≡ noGains ⌝ }
 {
     [0u8; 256]
 }
 
+// The gains of the mode, of those that were kept.
+fn kept_gains(mode: u8, g1: [u8; 256], g2: [u8; 256], g3: [u8; 256]) -> [u8; 256]
+    ensures { λ r. ⌜ r ≡ keptIn mode g1 g2 g3 ⌝ }
+{
+    match mode {
+        1 => g1,
+        2 => g2,
+        3 => g3,
+        _ => no_gains(),
+    }
+}
+
 fn plan_bins(row: &[u8], start: usize, end: usize, x: &[f32]) -> Plan
     requires { ⌜ Within (now row) start end (now x) ⌝ }
     ensures { λ r. ⌜ r ≡ planOf (now (row .entry)) (now (x .entry)) start end ⌝ }
 {
-    let t = tally_bins(row, start, end, x);
+    let mut g1 = no_gains();
+    let mut g2 = no_gains();
+    let mut g3 = no_gains();
+    let t = tally_bins(row, start, end, x, &mut g1, &mut g2, &mut g3);
     let mode = best_mode(t);
     let payload = payload_in(t, mode);
-    let mut gains = no_gains();
-    let count = fill_gains(row, start, end, x, mode, &mut gains);
+    let count = count_in(t, mode);
+    let gains = kept_gains(mode, g1, g2, g3);
     Plan {
         mode,
         gains,
@@ -320,19 +358,18 @@ fn refuse(n: u8) -> Planned
     }
 }
 
-// Whether some hebap of the bins start to end - 1 is above 19.
+// Whether some hebap of the bins start to end - 1 is above 19. All are looked at, which the machine does for several together.
 pub fn any_unknown(row: &[u8], start: usize, end: usize) -> bool
     requires { ⌜ (start ≤ end) × (end ≤ length (now row)) ⌝ }
     ensures { λ r. ⌜ r ≡ someOver (unknownAt (now (row .entry))) start end ⌝ }
 {
+    let mut found = false;
     let mut bin = start;
     while bin < end {
-        if row[bin] > 19 {
-            return true;
-        }
+        found = if row[bin] > 19 { true } else { found };
         bin += 1;
     }
-    false
+    found
 }
 
 fn too_large_at(row: &[u8], x: &[f32], bin: usize) -> bool
@@ -347,7 +384,7 @@ fn too_large_at(row: &[u8], x: &[f32], bin: usize) -> bool
     levels::any_too_large(&x[a..b])
 }
 
-fn any_too_large(row: &[u8], start: usize, end: usize, x: &[f32]) -> bool
+fn some_bin_too_large(row: &[u8], start: usize, end: usize, x: &[f32]) -> bool
     requires { ⌜ Within (now row) start end (now x) ⌝ }
     ensures { λ r. ⌜ r ≡ someOver (tooLargeAt (now (row .entry)) (now (x .entry))) start end ⌝ }
 {
@@ -357,6 +394,19 @@ fn any_too_large(row: &[u8], start: usize, end: usize, x: &[f32]) -> bool
             return true;
         }
         bin += 1;
+    }
+    false
+}
+
+// The components of all bins are looked at first, also those of bins with hebap 0: where none is too large, no bin is.
+fn any_too_large(row: &[u8], start: usize, end: usize, x: &[f32]) -> bool
+    requires { ⌜ Within (now row) start end (now x) ⌝ }
+    ensures { λ r. ⌜ r ≡ someOver (tooLargeAt (now (row .entry)) (now (x .entry))) start end ⌝ }
+{
+    let a = 6 * start;
+    let b = 6 * end;
+    if levels::any_too_large(&x[a..b]) {
+        return some_bin_too_large(row, start, end, x);
     }
     false
 }
@@ -442,6 +492,34 @@ fn chosen_gain(active: bool, gains: &[u8], n: usize) -> u8
     1
 }
 
+// The bits of six components at one gain.
+fn gain_bits(hebap: u8, x: &[f32], a: usize, gain: u8) -> u32
+    requires { ⌜ (8 ≤ hebap) × (hebap ≤ 16) ⌝ }
+    requires { ⌜ a + 6 ≤ length (now x) ⌝ }
+    ensures { λ r. ⌜ r ≡ costIn (costsOf hebap (now (x .entry)) a) gain ⌝ }
+{
+    let m = levels::mant(hebap);
+    let l = limits_for(hebap);
+    match gain {
+        1 => 6 * m,
+        2 => tagged_bits(x, a, l.two, m - 1, m - 1),
+        _ => tagged_bits(x, a, l.four, m - 2, m),
+    }
+}
+
+// The bits of a bin at one gain. gain_costs is left to tally_bins alone, so that the compiler puts it into that loop in place of a call.
+fn bin_bits(mode: u8, hebap: u8, x: &[f32], a: usize, gain: u8) -> u32
+    requires { ⌜ a + 6 ≤ length (now x) ⌝ }
+    ensures { λ r. ⌜ r ≡ codedBits (codingOf mode hebap) hebap (costsOf hebap (now (x .entry)) a) gain ⌝ }
+{
+    match gains::coding_of(mode, hebap) {
+        Coding::Nothing => 0,
+        Coding::Book => tables::vq_bits(hebap) as u32,
+        Coding::Fixed => 6 * levels::mant(hebap),
+        Coding::Adaptive => gain_bits(hebap, x, a, gain),
+    }
+}
+
 // The bits of the bins at the gains that were chosen.
 fn chosen_bits(row: &[u8], start: usize, end: usize, x: &[f32], mode: u8, gains: &[u8]) -> u32
     requires { ⌜ Within (now row) start end (now x) ⌝ }
@@ -456,7 +534,7 @@ fn chosen_bits(row: &[u8], start: usize, end: usize, x: &[f32], mode: u8, gains:
         let hebap = row[bin];
         let active = gains::is_active(mode, hebap);
         let gain = chosen_gain(active, gains, n);
-        bits += coded_bits(mode, hebap, bin_costs(hebap, x, 6 * bin), gain);
+        bits += bin_bits(mode, hebap, x, 6 * bin, gain);
         n += step_if(active);
         bin += 1;
     }

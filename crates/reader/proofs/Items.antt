@@ -47,18 +47,14 @@ module _ (h n : ℕ) (s : List ℕ) (p : BitPos) (e : n ≡ vqBits h) where
   few : n ≤ 32
   few = let m = vq-most h in omega arith
 
-  pub index-missing : bitAt p ≤ 8 * length s → 8 * length s < bitAt p + 1 * n → item (book h) .dec (drop (bitAt p) (bitsOf s)) ≡ refused 8
-  index-missing i f = let g : 8 * length s < bitAt p + n = omega arith in rw (← e, number-missing s (bitAt p) n few g (inr i))
+  pub index-missing : bitAt p ≤ 8 * length s → 8 * length s < bitAt p + n → item (book h) .dec (drop (bitAt p) (bitsOf s)) ≡ refused 8
+  index-missing i f = rw (← e, number-missing s (bitAt p) n few f (inr i))
 
-  module _ (f : bitAt p + 1 * n ≤ 8 * length s) where
-    there : bitAt p + n ≤ 8 * length s
-    there = omega arith
-
+  module _ (there : bitAt p + n ≤ 8 * length s) where
     -- it is read, and q is the position behind it
-    pub index-there : (i : ℕ) → i ≡ numberOf (take n (drop (bitAt p) (bitsOf s))) → (q : BitPos) → q ≡ posOf (bitAt p + 1 * n)
+    pub index-there : (i : ℕ) → i ≡ numberOf (take n (drop (bitAt p) (bitsOf s))) → (q : BitPos) → q ≡ posOf (bitAt p + n)
         → (item (book h) .dec (drop (bitAt p) (bitsOf s)) ≡ got (index i) (drop (bitAt q) (bitsOf s))) × Inside (8 * length s) q
-    index-there i v q w =
-        let k : q ≡ posOf (bitAt p + n) = w ∙ ap (λ (t : ℕ). posOf (bitAt p + t)) (omega arith) in
+    index-there i v q k =
         (rw (← e, k, v, number-there s (bitAt p) n few there), rw k (behind-inside s (bitAt p) n few there))
 
   -- its vector is in the book, and it has at most nine bits

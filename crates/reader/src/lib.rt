@@ -8,6 +8,7 @@ ghost use lib.ListN.{length, take, drop, replicate};
 ghost use Rattle.bits.specs.Bits.{bitsOf, bitAt, splice, Inside};
 ghost use Rattle.bits.specs.Format.{each};
 ghost use Rattle.levels.specs.Value.{f0};
+ghost use Rattle.levels.specs.Work.{ScalesLoaded};
 ghost use Rattle.books.specs.Work.{VectorsLoaded};
 ghost use Rattle.scalars.specs.Scalars.{scalarAnswer};
 ghost use Rattle.field.specs.Field.{partOf, groupWords, gainWords, book, scalar, item, binOf, binsOf, field};
@@ -156,13 +157,13 @@ fn read_index(
     ensures { λ r. ⌜ WhenGot (item (book hebap) .dec (drop (bitAt pos) (bitsOf (now (src .entry))))) (λ x. (now (values .exit) ≡ splice (now (values .entry)) (6 * bin) (valuesOf (book hebap) x)) × (now (exact .exit) ≡ splice (now (exact .entry)) (6 * bin) (exactsOf (book hebap) x)) × (now (indices .exit) ≡ splice (now (indices .entry)) bin (indexOf (book hebap) x ∷ []))) ⌝ }
 {
     let n = tables::vq_bits(hebap) as u32;
-    if !pos.holds(src.len(), 1, n as usize) {
+    if !pos.holds_few(src.len(), n) {
         return ScalarResult::Refused(8);
     }
     let i = pos.number(src, n);
     books::put_vector(loaded, hebap, i as usize, 6 * bin, values, exact);
     indices[bin] = i as u16;
-    ScalarResult::Done(pos.after(1, n as usize))
+    ScalarResult::Done(pos.past(n))
 }
 
 // Zeros at the places of a bin for which nothing stands in the field.
@@ -189,18 +190,21 @@ fn read_codes(
     hebap: u8,
     gk: u8,
     bin: usize,
+    scales: &[u32],
     values: &mut [f32],
     exact: &mut [i32],
     indices: &mut [u16],
 ) -> ScalarResult
     requires { ⌜ (8 ≤ hebap) × (hebap ≤ 19) ⌝ }
     requires { ⌜ Inside (8 * length (now src)) pos ⌝ }
+    requires { ⌜ ScalesLoaded (now scales) ⌝ }
     requires { ⌜ (bin < 256) × (6 * bin + 6 ≤ length (now values)) × (6 * bin + 6 ≤ length (now exact)) × (bin < length (now indices)) ⌝ }
     ensures { λ r. ⌜ r ≡ scalarAnswer (8 * length (now (src .entry))) (item (scalar hebap gk) .dec (drop (bitAt pos) (bitsOf (now (src .entry))))) ⌝ }
     ensures { λ r. ⌜ WhenGot (item (scalar hebap gk) .dec (drop (bitAt pos) (bitsOf (now (src .entry))))) (λ x. (now (values .exit) ≡ splice (now (values .entry)) (6 * bin) (valuesOf (scalar hebap gk) x)) × (now (exact .exit) ≡ splice (now (exact .entry)) (6 * bin) (exactsOf (scalar hebap gk) x)) × (now (indices .exit) ≡ splice (now (indices .entry)) bin (indexOf (scalar hebap gk) x ∷ []))) ⌝ }
 {
     indices[bin] = 0;
-    scalars::read_six(src, pos, hebap, gk, 6 * bin, values, exact)
+    let s = levels::scale_at(scales, hebap, gk);
+    scalars::read_six(s, src, pos, hebap, gk, 6 * bin, values, exact)
 }
 
 // What stands in the field for a bin: six values, six exact values and an index go to the bin's places.
@@ -212,6 +216,7 @@ fn read_bin(
     gk: u8,
     bin: usize,
     loaded: &[i16],
+    scales: &[u32],
     values: &mut [f32],
     exact: &mut [i32],
     indices: &mut [u16],
@@ -219,6 +224,7 @@ fn read_bin(
     requires { ⌜ hebap ≤ 19 ⌝ }
     requires { ⌜ Inside (8 * length (now src)) pos ⌝ }
     requires { ⌜ VectorsLoaded (now loaded) ⌝ }
+    requires { ⌜ ScalesLoaded (now scales) ⌝ }
     requires { ⌜ (bin < 256) × (6 * bin + 6 ≤ length (now values)) × (6 * bin + 6 ≤ length (now exact)) × (bin < length (now indices)) ⌝ }
     ensures { λ r. ⌜ r ≡ scalarAnswer (8 * length (now (src .entry))) (item (binOf mode hebap gk) .dec (drop (bitAt pos) (bitsOf (now (src .entry))))) ⌝ }
     ensures { λ r. ⌜ WhenGot (item (binOf mode hebap gk) .dec (drop (bitAt pos) (bitsOf (now (src .entry))))) (λ x. (now (values .exit) ≡ splice (now (values .entry)) (6 * bin) (valuesOf (binOf mode hebap gk) x)) × (now (exact .exit) ≡ splice (now (exact .entry)) (6 * bin) (exactsOf (binOf mode hebap gk) x)) × (now (indices .exit) ≡ splice (now (indices .entry)) bin (indexOf (binOf mode hebap gk) x ∷ []))) ⌝ }
@@ -229,8 +235,8 @@ fn read_bin(
             ScalarResult::Done(pos)
         }
         Coding::Book => read_index(src, pos, hebap, bin, loaded, values, exact, indices),
-        Coding::Fixed => read_codes(src, pos, hebap, 1, bin, values, exact, indices),
-        Coding::Adaptive => read_codes(src, pos, hebap, gk, bin, values, exact, indices),
+        Coding::Fixed => read_codes(src, pos, hebap, 1, bin, scales, values, exact, indices),
+        Coding::Adaptive => read_codes(src, pos, hebap, gk, bin, scales, values, exact, indices),
     }
 }
 
@@ -244,6 +250,7 @@ fn read_bins(
     end: usize,
     gains: &[u8],
     loaded: &[i16],
+    scales: &[u32],
     values: &mut [f32],
     exact: &mut [i32],
     indices: &mut [u16],
@@ -252,6 +259,7 @@ fn read_bins(
     requires { ⌜ someOver (unknownAt (now row)) start end ≡ false ⌝ }
     requires { ⌜ Inside (8 * length (now src)) pos ⌝ }
     requires { ⌜ VectorsLoaded (now loaded) ⌝ }
+    requires { ⌜ ScalesLoaded (now scales) ⌝ }
     requires { ⌜ (6 * end ≤ length (now values)) × (6 * end ≤ length (now exact)) × (end ≤ length (now indices)) ⌝ }
     ensures { λ r. ⌜ r ≡ scalarAnswer (8 * length (now (src .entry))) (each item (binsOf mode (partOf (now (row .entry)) start end) (now (gains .entry))) .dec (drop (bitAt pos) (bitsOf (now (src .entry))))) ⌝ }
     ensures { λ r. ⌜ (let bs = binsOf mode (partOf (now (row .entry)) start end) (now (gains .entry)) in WhenGot (each item bs .dec (drop (bitAt pos) (bitsOf (now (src .entry))))) (λ xs. (now (values .exit) ≡ splice (now (values .entry)) (6 * start) (valuesIn bs xs)) × (now (exact .exit) ≡ splice (now (exact .entry)) (6 * start) (exactsIn bs xs)) × (now (indices .exit) ≡ splice (now (indices .entry)) start (indicesIn bs xs)))) ⌝ }
@@ -270,6 +278,7 @@ fn read_bins(
             gk,
             bin,
             loaded,
+            scales,
             &mut *values,
             &mut *exact,
             &mut *indices,
@@ -298,6 +307,7 @@ fn read_behind(
     end: usize,
     gains: &mut [u8],
     loaded: &[i16],
+    scales: &[u32],
     values: &mut [f32],
     exact: &mut [i32],
     indices: &mut [u16],
@@ -308,6 +318,7 @@ fn read_behind(
     requires { ⌜ Inside (8 * length (now src)) pos ⌝ }
     requires { ⌜ length (now gains) ≡ 256 ⌝ }
     requires { ⌜ VectorsLoaded (now loaded) ⌝ }
+    requires { ⌜ ScalesLoaded (now scales) ⌝ }
     requires { ⌜ (6 * end ≤ length (now values)) × (6 * end ≤ length (now exact)) × (end ≤ length (now indices)) ⌝ }
     ensures { λ r. ⌜ r ≡ behindAnswer mode (8 * length (now (src .entry))) (behindMode mode (partOf (now (row .entry)) start end) .dec (drop (bitAt pos) (bitsOf (now (src .entry))))) ⌝ }
     ensures { λ r. ⌜ (let part = partOf (now (row .entry)) start end in WhenGot (behindMode mode part .dec (drop (bitAt pos) (bitsOf (now (src .entry))))) (λ c. (now (gains .exit) ≡ c .0 ++ drop (length (c .0)) (now (gains .entry))) × (now (values .exit) ≡ splice (now (values .entry)) (6 * start) (valuesShown part (mode, c))) × (now (exact .exit) ≡ splice (now (exact .entry)) (6 * start) (exactsShown part (mode, c))) × (now (indices .exit) ≡ splice (now (indices .entry)) start (indicesShown part (mode, c))))) ⌝ }
@@ -326,6 +337,7 @@ fn read_behind(
                 end,
                 &gains[..n],
                 loaded,
+                scales,
                 values,
                 exact,
                 indices,
@@ -347,6 +359,7 @@ fn read_field(
     end: usize,
     gains: &mut [u8],
     loaded: &[i16],
+    scales: &[u32],
     values: &mut [f32],
     exact: &mut [i32],
     indices: &mut [u16],
@@ -356,6 +369,7 @@ fn read_field(
     requires { ⌜ Inside (8 * length (now src)) pos ⌝ }
     requires { ⌜ length (now gains) ≡ 256 ⌝ }
     requires { ⌜ VectorsLoaded (now loaded) ⌝ }
+    requires { ⌜ ScalesLoaded (now scales) ⌝ }
     requires { ⌜ (6 * end ≤ length (now values)) × (6 * end ≤ length (now exact)) × (end ≤ length (now indices)) ⌝ }
     ensures { λ r. ⌜ r ≡ fieldAnswer (8 * length (now (src .entry))) (field (partOf (now (row .entry)) start end) .dec (drop (bitAt pos) (bitsOf (now (src .entry))))) ⌝ }
     ensures { λ r. ⌜ (let part = partOf (now (row .entry)) start end in WhenGot (field part .dec (drop (bitAt pos) (bitsOf (now (src .entry))))) (λ c. (now (gains .exit) ≡ c .1 .0 ++ drop (length (c .1 .0)) (now (gains .entry))) × (now (values .exit) ≡ splice (now (values .entry)) (6 * start) (valuesShown part c)) × (now (exact .exit) ≡ splice (now (exact .entry)) (6 * start) (exactsShown part c)) × (now (indices .exit) ≡ splice (now (indices .entry)) start (indicesShown part c)))) ⌝ }
@@ -372,6 +386,7 @@ fn read_field(
             end,
             gains,
             loaded,
+            scales,
             values,
             exact,
             indices,
@@ -484,6 +499,7 @@ fn read_known(
     indices: &mut [u16],
     gains: &mut [u8],
     loaded: &[i16],
+    scales: &[u32],
     v: &mut [f32],
     e: &mut [i32],
     x: &mut [u16],
@@ -494,6 +510,7 @@ fn read_known(
     requires { ⌜ (6 * end ≤ length (now values)) × (6 * end ≤ length (now exact)) × (end ≤ length (now indices)) ⌝ }
     requires { ⌜ length (now gains) ≡ 256 ⌝ }
     requires { ⌜ VectorsLoaded (now loaded) ⌝ }
+    requires { ⌜ ScalesLoaded (now scales) ⌝ }
     requires { ⌜ (length (now v) ≡ 1536) × (length (now e) ≡ 1536) × (length (now x) ≡ 256) ⌝ }
     ensures { λ r. ⌜ r ≡ fieldAnswer (8 * length (now (src .entry))) (field (partOf (now (hebap .entry)) start end) .dec (drop (bitAt pos) (bitsOf (now (src .entry))))) ⌝ }
     ensures { λ r. ⌜ now (values .exit) ≡ withShown (valuesShown (partOf (now (hebap .entry)) start end)) (6 * start) (now (values .entry)) (field (partOf (now (hebap .entry)) start end) .dec (drop (bitAt pos) (bitsOf (now (src .entry))))) ⌝ }
@@ -509,6 +526,7 @@ fn read_known(
         end,
         gains,
         loaded,
+        scales,
         &mut *v,
         &mut *e,
         &mut *x,
@@ -534,12 +552,14 @@ fn read_with(
     indices: &mut [u16],
     gains: &mut [u8],
     loaded: &[i16],
+    scales: &[u32],
     v: &mut [f32],
     e: &mut [i32],
     x: &mut [u16],
 ) -> FieldResult
     requires { ⌜ length (now gains) ≡ 256 ⌝ }
     requires { ⌜ VectorsLoaded (now loaded) ⌝ }
+    requires { ⌜ ScalesLoaded (now scales) ⌝ }
     requires { ⌜ (length (now v) ≡ 1536) × (length (now e) ≡ 1536) × (length (now x) ≡ 256) ⌝ }
     ensures { λ r. ⌜ r ≡ fieldAnswer (8 * length (now (src .entry))) (channelRead (now (src .entry)) (bitAt pos) (now (hebap .entry)) start end (length (now (values .entry))) (length (now (exact .entry))) (length (now (indices .entry)))) ⌝ }
     ensures { λ r. ⌜ now (values .exit) ≡ withShown (valuesShown (partOf (now (hebap .entry)) start end)) (6 * start) (now (values .entry)) (channelRead (now (src .entry)) (bitAt pos) (now (hebap .entry)) start end (length (now (values .entry))) (length (now (exact .entry))) (length (now (indices .entry)))) ⌝ }
@@ -563,6 +583,7 @@ fn read_with(
             indices,
             gains,
             loaded,
+            scales,
             v,
             e,
             x,
@@ -627,6 +648,7 @@ pub fn read_aht_channel(
     let mut gains = planner::no_gains();
     let mut room = [0i16; 5736];
     books::load_vectors(&mut room);
+    let scales = levels::scales();
     let mut v = [0.0f32; 1536];
     let mut e = [0i32; 1536];
     let mut x = [0u16; 256];
@@ -641,6 +663,7 @@ pub fn read_aht_channel(
         indices,
         &mut gains,
         &room,
+        &scales,
         &mut v,
         &mut e,
         &mut x,

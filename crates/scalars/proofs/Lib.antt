@@ -1,2 +1,3 @@
 pub mod Laws
 pub mod Six
+pub mod Ahead

@@ -69,6 +69,10 @@ module _ (h g at : ℕ) (s : List ℕ) (start : ℕ) (v : List Float) (x : List 
         exacts = sym (splice-none x at);
       }
 
+  -- of lists that are given by equations
+  pub in-lists : (p : BitPos) (j : ℕ) (v′ v″ : List Float) (x′ x″ : List ℤ) → v″ ≡ v′ → x″ ≡ x′ → SoFar p j v′ x′ → SoFar p j v″ x″
+  in-lists p j v′ v″ x′ x″ e e′ f = rw (e, e′) f
+
   module _ (p : BitPos) (j : ℕ) (v′ : List Float) (x′ : List ℤ) (f : SoFar p j v′ x′) (more : j < 6) where
     left : replicate {A = ℕ} (6 - j) 0 ≡ 0 ∷ replicate (6 - (j + 1)) 0
     left = let e : 6 - j ≡ suc (6 - (j + 1)) = omega arith in ap (λ (n : ℕ). replicate {A = ℕ} n 0) e

@@ -1,15 +1,19 @@
 // The reading of scalar mantissas: a code, the six codes of a bin, and read_scalar_aht_mantissas of the Rust.
 ghost use mathlib.Core.Path.{_≡_};
-ghost use Prim.Native.Nat.{_+_, _*_, _≤_};
-ghost use lib.ListN.{length, drop, replicate};
+ghost use Prim.Native.Nat.{_+_, _*_, _<_, _≤_};
+ghost use lib.ListN.{length, drop, replicate, set};
 ghost use Rattle.bits.specs.Bits.{bitsOf, bitAt, Inside};
 ghost use Rattle.tables.specs.Tables.{mantBits};
-ghost use Rattle.levels.specs.Codes.{tagged, coded, six};
-ghost use Rattle.levels.specs.Value.{f0};
+ghost use Rattle.levels.specs.Codes.{tagged, coded, six, Accepted};
+ghost use Rattle.levels.specs.Exact.{exactOf};
+ghost use Rattle.levels.specs.Value.{f0, valueOf};
+ghost use Rattle.levels.specs.Work.{scaleOf};
+ghost use Rattle.scalars.specs.declared.ScalarResult.{ScalarResult};
 ghost use Rattle.scalars.specs.Scalars.{codeIn, CodeNext, scalarAnswer, sixValues, sixExacts, gainOf, valuesRead, binRead, scalarsRead, scalarsAfter};
 use bits::BitPos;
 use bits::BitRead;
 use levels::Code;
+use levels::CodeScale;
 
 // What read_code answers: the code and the advanced position, or the number of the refusal.
 pub enum CodeResult {
@@ -68,8 +72,117 @@ pub fn read_code(src: &[u8], pos: BitPos, hebap: u8, gk: u8) -> CodeResult
     )
 }
 
-// The six codes of a bin: their f32 and exact values go to the places from `at` on. Where the bits run out, the values of the codes before that stand there.
-pub fn read_six(
+// The f32 and the exact value of a code go to the place `at`.
+fn put_code(
+    s: CodeScale,
+    hebap: u8,
+    gk: u8,
+    code: Code,
+    at: usize,
+    values: &mut [f32],
+    exact: &mut [i32],
+)
+    requires { ⌜ (8 ≤ hebap) × (hebap ≤ 19) ⌝ }
+    requires { ⌜ s ≡ scaleOf hebap gk ⌝ }
+    requires { ⌜ Accepted hebap gk code ⌝ }
+    requires { ⌜ (at < length (now values)) × (at < length (now exact)) ⌝ }
+    ensures { λ r. ⌜ now (values .exit) ≡ set (now (values .entry)) at (valueOf hebap gk code) ⌝ }
+    ensures { λ r. ⌜ now (exact .exit) ≡ set (now (exact .entry)) at (exactOf hebap gk code) ⌝ }
+{
+    values[at] = levels::value_of(levels::level_of(s, hebap, gk, code));
+    exact[at] = levels::exact_value(s, hebap, gk, code);
+}
+
+// Six codes of Gk 1, where all their bits are there.
+fn read_fixed(
+    s: CodeScale,
+    src: &[u8],
+    pos: BitPos,
+    hebap: u8,
+    at: usize,
+    values: &mut [f32],
+    exact: &mut [i32],
+) -> BitPos
+    requires { ⌜ (8 ≤ hebap) × (hebap ≤ 19) ⌝ }
+    requires { ⌜ s ≡ scaleOf hebap 1 ⌝ }
+    requires { ⌜ (pos .bit < 8) × (pos .byte + 28 ≤ length (now src)) ⌝ }
+    requires { ⌜ (at + 6 ≤ length (now values)) × (at + 6 ≤ length (now exact)) ⌝ }
+    ensures { λ r. ⌜ ScalarResult.Done r ≡ scalarAnswer (8 * length (now (src .entry))) (six (mantBits hebap) 1 .dec (drop (bitAt pos) (bitsOf (now (src .entry))))) ⌝ }
+    ensures { λ r. ⌜ now (values .exit) ≡ sixValues hebap 1 at (drop (bitAt pos) (bitsOf (now (src .entry)))) (now (values .entry)) ⌝ }
+    ensures { λ r. ⌜ now (exact .exit) ≡ sixExacts hebap 1 at (drop (bitAt pos) (bitsOf (now (src .entry)))) (now (exact .entry)) ⌝ }
+{
+    let mut d: u32 = 0;
+    let mut j: usize = 0;
+    while j < 6 {
+        let p = pos.past(d);
+        let u = p.short_number(src, s.large);
+        values[at + j] = levels::fixed_value(s, hebap, u);
+        exact[at + j] = levels::fixed_exact(s, hebap, u);
+        d += s.large;
+        j += 1;
+    }
+    pos.past(d)
+}
+
+// Six codes of another gain, where the bits of any six are there.
+fn read_small_or_large(
+    s: CodeScale,
+    src: &[u8],
+    pos: BitPos,
+    hebap: u8,
+    gk: u8,
+    at: usize,
+    values: &mut [f32],
+    exact: &mut [i32],
+) -> BitPos
+    requires { ⌜ (8 ≤ hebap) × (hebap ≤ 19) × (gk ≡ 1 → ⊥) ⌝ }
+    requires { ⌜ s ≡ scaleOf hebap gk ⌝ }
+    requires { ⌜ (pos .bit < 8) × (pos .byte + 28 ≤ length (now src)) ⌝ }
+    requires { ⌜ (at + 6 ≤ length (now values)) × (at + 6 ≤ length (now exact)) ⌝ }
+    ensures { λ r. ⌜ ScalarResult.Done r ≡ scalarAnswer (8 * length (now (src .entry))) (six (mantBits hebap) gk .dec (drop (bitAt pos) (bitsOf (now (src .entry))))) ⌝ }
+    ensures { λ r. ⌜ now (values .exit) ≡ sixValues hebap gk at (drop (bitAt pos) (bitsOf (now (src .entry)))) (now (values .entry)) ⌝ }
+    ensures { λ r. ⌜ now (exact .exit) ≡ sixExacts hebap gk at (drop (bitAt pos) (bitsOf (now (src .entry)))) (now (exact .entry)) ⌝ }
+{
+    let mut d: u32 = 0;
+    let mut j: usize = 0;
+    while j < 6 {
+        let p = pos.past(d);
+        let u = p.short_number(src, s.small);
+        d += s.small;
+        if u == levels::two_to(s.small - 1) {
+            let q = pos.past(d);
+            let l = q.short_number(src, s.large);
+            d += s.large;
+            put_code(
+                s,
+                hebap,
+                gk,
+                Code::Large(l),
+                at + j,
+                &mut *values,
+                &mut *exact,
+            );
+            j += 1;
+        } else {
+            put_code(
+                s,
+                hebap,
+                gk,
+                Code::Small(u),
+                at + j,
+                &mut *values,
+                &mut *exact,
+            );
+            j += 1;
+        }
+    }
+    pos.past(d)
+}
+
+// Six codes near the end of the input: each is asked whether it is there. Where the bits run out, the values of the codes before that stand in
+// the outputs.
+fn read_near_end(
+    s: CodeScale,
     src: &[u8],
     pos: BitPos,
     hebap: u8,
@@ -79,13 +192,13 @@ pub fn read_six(
     exact: &mut [i32],
 ) -> ScalarResult
     requires { ⌜ (8 ≤ hebap) × (hebap ≤ 19) ⌝ }
+    requires { ⌜ s ≡ scaleOf hebap gk ⌝ }
     requires { ⌜ Inside (8 * length (now src)) pos ⌝ }
     requires { ⌜ (at + 6 ≤ length (now values)) × (at + 6 ≤ length (now exact)) ⌝ }
     ensures { λ r. ⌜ r ≡ scalarAnswer (8 * length (now (src .entry))) (six (mantBits hebap) gk .dec (drop (bitAt pos) (bitsOf (now (src .entry))))) ⌝ }
     ensures { λ r. ⌜ now (values .exit) ≡ sixValues hebap gk at (drop (bitAt pos) (bitsOf (now (src .entry)))) (now (values .entry)) ⌝ }
     ensures { λ r. ⌜ now (exact .exit) ≡ sixExacts hebap gk at (drop (bitAt pos) (bitsOf (now (src .entry)))) (now (exact .entry)) ⌝ }
 {
-    let s = levels::scale_of(hebap, gk);
     let mut p = pos;
     let mut j: usize = 0;
     while j < 6 {
@@ -95,14 +208,43 @@ pub fn read_six(
                 return ScalarResult::Refused(k);
             }
             CodeResult::Read(code, next) => {
-                values[at + j] = levels::value_of(levels::level_of(s, hebap, gk, code));
-                exact[at + j] = levels::exact_value(s, hebap, gk, code);
+                put_code(s, hebap, gk, code, at + j, &mut *values, &mut *exact);
                 p = next;
                 j += 1;
             }
         }
     }
     ScalarResult::Done(p)
+}
+
+// The six codes of a bin: their f32 and exact values go to the places from `at` on. Six codes take 180 bits at most, so with 28 bytes ahead no code
+// is asked whether it is there.
+pub fn read_six(
+    s: CodeScale,
+    src: &[u8],
+    pos: BitPos,
+    hebap: u8,
+    gk: u8,
+    at: usize,
+    values: &mut [f32],
+    exact: &mut [i32],
+) -> ScalarResult
+    requires { ⌜ (8 ≤ hebap) × (hebap ≤ 19) ⌝ }
+    requires { ⌜ s ≡ scaleOf hebap gk ⌝ }
+    requires { ⌜ Inside (8 * length (now src)) pos ⌝ }
+    requires { ⌜ (at + 6 ≤ length (now values)) × (at + 6 ≤ length (now exact)) ⌝ }
+    ensures { λ r. ⌜ r ≡ scalarAnswer (8 * length (now (src .entry))) (six (mantBits hebap) gk .dec (drop (bitAt pos) (bitsOf (now (src .entry))))) ⌝ }
+    ensures { λ r. ⌜ now (values .exit) ≡ sixValues hebap gk at (drop (bitAt pos) (bitsOf (now (src .entry)))) (now (values .entry)) ⌝ }
+    ensures { λ r. ⌜ now (exact .exit) ≡ sixExacts hebap gk at (drop (bitAt pos) (bitsOf (now (src .entry)))) (now (exact .entry)) ⌝ }
+{
+    let byte = pos.byte;
+    if byte + 28 <= src.len() {
+        if gk == 1 {
+            return ScalarResult::Done(read_fixed(s, src, pos, hebap, at, values, exact));
+        }
+        return ScalarResult::Done(read_small_or_large(s, src, pos, hebap, gk, at, values, exact));
+    }
+    read_near_end(s, src, pos, hebap, gk, at, values, exact)
 }
 
 // Gk of a bin.
@@ -142,7 +284,8 @@ fn read_values(
     ensures { λ r. ⌜ r ≡ scalarAnswer (8 * length (now (src .entry))) (valuesRead hebap gk (drop (bitAt pos) (bitsOf (now (src .entry))))) ⌝ }
     ensures { λ r. ⌜ now (out .exit) ≡ scalarsAfter (now (out .entry)) (valuesRead hebap gk (drop (bitAt pos) (bitsOf (now (src .entry))))) ⌝ }
 {
-    let r = read_six(src, pos, hebap, gk, 0, &mut *values, &mut *exact);
+    let s = levels::scale_of(hebap, gk);
+    let r = read_six(s, src, pos, hebap, gk, 0, &mut *values, &mut *exact);
     match r {
         ScalarResult::Refused(k) => ScalarResult::Refused(k),
         ScalarResult::Done(next) => {

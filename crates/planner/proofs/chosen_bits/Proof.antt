@@ -1,7 +1,9 @@
 -- `planner::chosen_bits` meets its contract. Assumes nothing.
-use Prim.Native.Nat.{_≤_, _-_}
-use mathlib.Core.Path.{sym, _∙_}
+use Prim.Native.Nat.{_≤_, _-_, _*_}
+use lib.ListN.{getD}
+use mathlib.Core.Path.{refl, sym, _∙_}
 use Rattle.planner.specs.Choice.{chosenAt}
+use Rattle.planner.specs.Work.{costsOf}
 use Rattle.planner.proofs.Optimal.{rank-lt}
 use Rattle.planner.proofs.Steps.{one-small}
 use Rattle.planner.proofs.Over.{sum-end}
@@ -36,24 +38,23 @@ chosen-gain-requires c κs =
     let p = s .pre .1 .0 in
     omega arith
 
-mul-bin-costs : tie.Need-mul-bin-costs Inv-loop μ-loop
-mul-bin-costs c = search needs
+mul-bin-bits : tie.Need-mul-bin-bits Inv-loop μ-loop
+mul-bin-bits c = search needs
 
-bin-costs-requires : tie.Need-bin-costs-requires Inv-loop μ-loop
-bin-costs-requires c κs = search needs
-
-coded-bits-requires : tie.Need-coded-bits-requires Inv-loop μ-loop
-coded-bits-requires c κs = search needs
+bin-bits-requires : tie.Need-bin-bits-requires Inv-loop μ-loop
+bin-bits-requires c κs = search needs
 
 add-bits : tie.Need-add-bits Inv-loop μ-loop
 add-bits c =
-    let l = c .before .before .before .before .before .before in
+    let g = c .before in
+    let a = g .before in
+    let k = a .before .before in
+    let l = k .before in
     let s = l .before .before .before .before in
-    let t = c .before .before .before .before .before .loop-test .taken in
     record {
-      fits = chosen-fits (s .args .mode) (s .args .gains .now) (s .args .row .now) (s .args .x .now) (s .args .start) (l .loop .bin) (s .args .end) (l .loop .n) (l .loop .bits) (l .loop .inv .1) t (s .pre .0 .few) (s .pre .1 .1)
-          (c .before .before .before .is-active .result) (c .before .bin-costs .result) (c .before .before .chosen-gain .result) (c .coded-bits .result)
-          (c .before .before .before .is-active .ensures) (c .before .bin-costs .ensures) (c .before .before .chosen-gain .ensures) (c .coded-bits .ensures);
+      fits = chosen-fits (s .args .mode) (s .args .gains .now) (s .args .row .now) (s .args .x .now) (s .args .start) (l .loop .bin) (s .args .end) (l .loop .n) (l .loop .bits) (l .loop .inv .1) (k .loop-test .taken) (s .pre .0 .few) (s .pre .1 .1)
+          (a .is-active .result) (costsOf (getD (s .args .row .now) (l .loop .bin) 0) (s .args .x .now) (6 * l .loop .bin)) (g .chosen-gain .result) (c .bin-bits .result)
+          (a .is-active .ensures) refl (g .chosen-gain .ensures) (c .bin-bits .ensures);
     }
 
 step-if-requires : tie.Need-step-if-requires Inv-loop μ-loop
@@ -61,12 +62,14 @@ step-if-requires c κs = search needs
 
 add-n : tie.Need-add-n Inv-loop μ-loop
 add-n c =
-    let l = c .before .before .before .before .before .before .before in
+    let a = c .before .before .before in
+    let k = a .before .before in
+    let l = k .before in
     let s = l .before .before .before .before in
-    let t = c .before .before .before .before .before .before .loop-test .taken in
+    let t = k .loop-test .taken in
     let m = count-most (s .args .mode) (s .args .row .now) (s .args .start) (l .loop .bin) in
     let v = l .loop .inv .1 .rank in
-    let o = one-small (c .before .before .before .before .is-active .result) in
+    let o = one-small (a .is-active .result) in
     let e = c .step-if .ensures in
     let p = s .pre .0 .few in
     omega arith
@@ -79,13 +82,17 @@ loop-less c = search needs
 
 loop-again : tie.Need-loop-again Inv-loop μ-loop
 loop-again c =
-    let l = c .before .before .before .before .before .before .before in
+    let b = c .before in
+    let g = b .before in
+    let a = g .before in
+    let k = a .before .before in
+    let l = k .before in
     let s = l .before .before .before .before in
-    let t = c .before .before .before .before .before .before .loop-test .taken in (
+    let t = k .loop-test .taken in (
       omega arith,
       chosen-turn (s .args .mode) (s .args .gains .now) (s .args .row .now) (s .args .x .now) (s .args .start) (l .loop .bin) (s .args .end) (l .loop .n) (l .loop .bits) (l .loop .inv .1) t (s .pre .0 .few) (s .pre .1 .1)
-          (c .before .before .before .before .is-active .result) (c .before .before .bin-costs .result) (c .before .before .before .chosen-gain .result) (c .before .coded-bits .result)
-          (c .before .before .before .before .is-active .ensures) (c .before .before .bin-costs .ensures) (c .before .before .before .chosen-gain .ensures) (c .before .coded-bits .ensures) (c .step-if .result) (c .step-if .ensures),
+          (a .is-active .result) (costsOf (getD (s .args .row .now) (l .loop .bin) 0) (s .args .x .now) (6 * l .loop .bin)) (g .chosen-gain .result) (b .bin-bits .result)
+          (a .is-active .ensures) refl (g .chosen-gain .ensures) (b .bin-bits .ensures) (c .step-if .result) (c .step-if .ensures),
     )
 
 returns : tie.Need-returns Inv-loop μ-loop
@@ -101,9 +108,8 @@ chosen-bits-spec =
     shared-slice-read-hebap
     is-active-requires
     chosen-gain-requires
-    mul-bin-costs
-    bin-costs-requires
-    coded-bits-requires
+    mul-bin-bits
+    bin-bits-requires
     add-bits
     step-if-requires
     add-n

@@ -19,9 +19,9 @@ count-active-requires c κs = search needs
 
 -- so many bins are active
 active : (c : tie.After-count-active)
-    → let a = c .before .before .before .before .before .before .args in c .count-active .result ≡ activeBins (a .mode) (partOf (now (a .row)) (a .start) (a .end))
+    → let a = c .before .before .before .before .before .before .before .args in c .count-active .result ≡ activeBins (a .mode) (partOf (now (a .row)) (a .start) (a .end))
 active c =
-    let s = c .before .before .before .before .before .before in
+    let s = c .before .before .before .before .before .before .before in
     let a = s .args in
     c .count-active .ensures ∙ sym (active-part (a .mode) (now (a .row)) (a .start) (a .end) (s .pre .1 .0 .0) (s .pre .1 .0 .2))
 
@@ -29,13 +29,13 @@ active c =
 gains : (c : tie.After-g2)
     → let r = c .before .before .before .before in
     let n = r .before .before in
-    let s = n .before .before .before .before .before .before in
+    let s = n .before .before .before .before .before .before .before in
     let a = s .args in
     GainsRead (a .mode) (partOf (now (a .row)) (a .start) (a .end)) (now (a .src)) (a .pos) (s .pre .1 .1 .1 .0) (s .pre .0) (n .count-active .result) (active n) (c .g2 .given .0 .0) (now (a .gains)) (r .read-gains .last .1 .1 .1 .1 .0)
 gains c =
     let r = c .before .before .before .before in
     let n = r .before .before in
-    let s = n .before .before .before .before .before .before in
+    let s = n .before .before .before .before .before .before .before in
     let a = s .args in
     gains-read (a .mode) (partOf (now (a .row)) (a .start) (a .end)) (now (a .src)) (a .pos) (s .pre .1 .1 .1 .0) (s .pre .0) (n .count-active .result) (active n) (r .read-gains .result) _ (now (a .gains)) (r .read-gains .last .1 .1 .1 .1 .0) (r .read-gains .ensures .0) (c .g2 .given .1) (r .read-gains .ensures .1)
 
@@ -43,7 +43,7 @@ gains c =
 room : (c : tie.After-g2) → let r = c .before .before .before .before in r .before .before .count-active .result ≤ length (r .read-gains .last .1 .1 .1 .1 .0)
 room c =
     let r = c .before .before .before .before in
-    let s = r .before .before .before .before .before .before .before .before in
+    let s = r .before .before .before .before .before .before .before .before .before in
     let a = s .args in
     let m = count-most (a .mode) (now (a .row)) (a .start) (a .end) in
     let e = r .before .before .count-active .ensures in
@@ -53,7 +53,7 @@ room c =
 read-gains-requires : tie.Need-read-gains-requires
 read-gains-requires c κs =
     let n = c .before in
-    let s = n .before .before .before .before .before .before in
+    let s = n .before .before .before .before .before .before .before in
     let a = s .args in
     let m = count-most (a .mode) (now (a .row)) (a .start) (a .end) in
     let e = n .count-active .ensures in
@@ -74,7 +74,7 @@ slice-aggregate-read-bins c = let g = c .before .before in let r = g .before .be
 read-bins-requires : tie.Need-read-bins-requires
 read-bins-requires c κs =
     let g = c .before .before .before .before .before in
-    let s = g .before .before .before .before .before .before .before .before .before .before .before .before in
+    let s = g .before .before .before .before .before .before .before .before .before .before .before .before .before in
     (s .pre .1 .0, (s .pre .1 .1 .0, (gains g .inside, s .pre .1 .1 .1 .1 .1)))
 
 enum-known-b : tie.Need-enum-known-b
@@ -90,7 +90,7 @@ returns : tie.Need-returns
 returns c =
     let r = c .before .before .before .before .before in
     let n = r .before .before in
-    let s = n .before .before .before .before .before .before in
+    let s = n .before .before .before .before .before .before .before in
     let a = s .args in
     let e = gains-stop (a .mode) (partOf (now (a .row)) (a .start) (a .end)) (now (a .src)) (a .pos) (s .pre .1 .1 .1 .0) (s .pre .0) (n .count-active .result) (active n) (r .read-gains .result) _ (r .read-gains .ensures .0) (c .before .g .given .1) in
     rw e (refl, tt)
@@ -113,7 +113,7 @@ returns-2 c =
     let g = b .before .before .before .before .before .before in
     let r = g .before .before .before .before in
     let n = r .before .before in
-    let s = n .before .before .before .before .before .before in
+    let s = n .before .before .before .before .before .before .before in
     let a = s .args in
     let e = bins-stop (a .mode) (partOf (now (a .row)) (a .start) (a .end)) (now (a .src)) (a .pos) (s .pre .1 .1 .1 .0) (s .pre .0) (n .count-active .result) (active n) _ (now (a .gains)) (r .read-gains .last .1 .1 .1 .1 .0) (gains g) (b .read-bins .result) _ (b .read-bins .ensures .0) (c .before .b .given .1) in
     rw e (refl, tt)
@@ -136,7 +136,7 @@ returns-3 c =
     let g = b .before .before .before .before .before .before in
     let r = g .before .before .before .before in
     let n = r .before .before in
-    let s = n .before .before .before .before .before .before in
+    let s = n .before .before .before .before .before .before .before in
     let a = s .args in
     bins-read (a .mode) (partOf (now (a .row)) (a .start) (a .end)) (now (a .src)) (a .pos) (s .pre .1 .1 .1 .0) (s .pre .0) (n .count-active .result) (active n) _ (now (a .gains)) (r .read-gains .last .1 .1 .1 .1 .0) (gains g) (a .start) (now (a .values)) _ (now (a .exact)) _ (now (a .indices)) _ (b .read-bins .result) _ (b .read-bins .ensures .0) (c .before .b2 .given .1) (b .read-bins .ensures .1)
 

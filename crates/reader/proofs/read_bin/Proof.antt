@@ -12,10 +12,10 @@ use Rattle.reader.proofs.read_bin.Tie as tie
 
 -- the bin of the coding that was found
 known : (c : tie.After-coding-of) (d : Coding) → c .coding-of .result ≡ d
-    → let a = c .before .before .before .before .args in
+    → let a = c .before .before .before .before .before .args in
     Range d (a .hebap) × (binOf (a .mode) (a .hebap) (a .gk) ≡ codedAs d (a .hebap) (a .gk))
 known c d e =
-    let s = c .before .before .before .before in
+    let s = c .before .before .before .before .before in
     let a = s .args in
     coded-bin (a .mode) (a .hebap) (a .gk) d (s .pre .0) (sym (c .coding-of .ensures) ∙ e)
 
@@ -35,8 +35,8 @@ read-index-requires : tie.Need-read-index-requires
 read-index-requires c κs =
     let t = c .before .before .before in
     let k = t .before .before in
-    let s = k .before .before .before .before in
-    (known k Coding.Book (t .enum-told2 .given .1) .0, s .pre .1)
+    let s = k .before .before .before .before .before in
+    (known k Coding.Book (t .enum-told2 .given .1) .0, (s .pre .1 .0, (s .pre .1 .1 .0, s .pre .1 .1 .1 .1)))
 
 enum-told-3 : tie.Need-enum-told-3
 enum-told-3 c = search needs
@@ -45,7 +45,7 @@ read-codes-requires : tie.Need-read-codes-requires
 read-codes-requires c κs =
     let t = c .before .before .before in
     let k = t .before .before in
-    let s = k .before .before .before .before in
+    let s = k .before .before .before .before .before in
     ((known k Coding.Fixed (t .enum-told3 .given .1) .0, s .pre .0), (s .pre .1 .0, s .pre .1 .1 .1))
 
 enum-told-4 : tie.Need-enum-told-4
@@ -55,7 +55,7 @@ read-codes-requires-2 : tie.Need-read-codes-requires-2
 read-codes-requires-2 c κs =
     let t = c .before .before .before in
     let k = t .before .before in
-    let s = k .before .before .before .before in
+    let s = k .before .before .before .before .before in
     ((known k Coding.Adaptive (t .enum-told4 .given .1) .0, s .pre .0), (s .pre .1 .0, s .pre .1 .1 .1))
 
 same-length : tie.Need-same-length
@@ -72,7 +72,7 @@ returns c =
     let z = c .before .before .before .before .before in
     let t = z .before .before .before .before in
     let k = t .before .before in
-    let s = k .before .before .before .before in
+    let s = k .before .before .before .before .before in
     let a = s .args in
     let e = z .put-zeros .ensures in
     rw (known k Coding.Nothing (t .enum-told .given .1) .1) (ap ScalarResult.Done (sym (pos-is (now (a .src)) (a .pos) (s .pre .1 .0))), (e .0, e .1 .0, e .1 .1))

@@ -15,16 +15,16 @@ use Rattle.reader.proofs.read_bins.Statement.{statement}
 use Rattle.reader.proofs.read_bins.Tie as tie
 
 abbrev Inv-loop : tie.InvT-loop
-Inv-loop src mode row start end gains loaded values₀ exact₀ indices₀ p₀ n₀ bin₀ values exact indices p n bin =
+Inv-loop src mode row start end gains loaded scales values₀ exact₀ indices₀ p₀ n₀ bin₀ values exact indices p n bin =
     (start ≤ bin) × (bin ≤ end) × (n ≤ bin) × (length values ≡ length values₀) × (length exact ≡ length exact₀) × (length indices ≡ length indices₀)
     × SoFar mode row gains start end src (bitAt p₀) values₀ exact₀ indices₀ p n bin values exact indices
 
 abbrev μ-loop : tie.MeasureT-loop
-μ-loop src mode row start end gains loaded values₀ exact₀ indices₀ p₀ n₀ bin₀ values exact indices p n bin = end - bin
+μ-loop src mode row start end gains loaded scales values₀ exact₀ indices₀ p₀ n₀ bin₀ values exact indices p n bin = end - bin
 
 loop-holds : tie.Need-loop-holds Inv-loop μ-loop
 loop-holds c =
-    let s = c .before .before .before .before .before in
+    let s = c .before .before .before .before .before .before in
     let a = s .args in
     (omega arith, s .pre .0 .0, omega arith, refl, refl, refl, none-yet (a .mode) (now (a .row)) (now (a .gains)) (a .start) (a .end) (now (a .src)) (bitAt (a .pos)) (now (a .values)) (now (a .exact)) (now (a .indices)) (a .pos) refl (s .pre .1 .1 .0))
 
@@ -37,10 +37,10 @@ gain-at-requires c κs = search needs
 read-bin-requires : tie.Need-read-bin-requires Inv-loop μ-loop
 read-bin-requires c κs =
     let l = c .before .before .before .before .before .before in
-    let s = l .before .before .before .before .before .before in
+    let s = l .before .before .before .before .before .before .before in
     let a = s .args in (
       known-hebap (now (a .row)) (a .start) (a .end) (l .loop .bin) (s .pre .1 .0) (l .loop .inv .0) (omega arith),
-      (l .loop .inv .6 .inside, (s .pre .1 .1 .1 .0, (omega arith, omega arith, omega arith, omega arith))),
+      (l .loop .inv .6 .inside, (s .pre .1 .1 .1 .0, (s .pre .1 .1 .1 .1 .0, (omega arith, omega arith, omega arith, omega arith)))),
     )
 
 enum-known-r : tie.Need-enum-known-r Inv-loop μ-loop
@@ -60,7 +60,7 @@ returns c =
     let r = c .before .before .before .before .before .before .before .before in
     let g = r .before .before .before .before in
     let l = g .before .before .before in
-    let s = l .before .before .before .before .before .before in
+    let s = l .before .before .before .before .before .before .before in
     let a = s .args in
     let h = getD (now (a .row)) (l .loop .bin) 0 in
     let G = item (binOf (a .mode) h (g .gain-at .result)) .dec (drop (bitAt (l .loop .p)) (bitsOf (now (a .src)))) in
@@ -75,7 +75,7 @@ gains-used-requires c κs = search needs
 add-n : tie.Need-add-n Inv-loop μ-loop
 add-n c =
     let l = c .before .before .before .before .before .before .before .before .before .before .before .before .before .before .before .before in
-    let a = l .before .before .before .before .before .before .args in
+    let a = l .before .before .before .before .before .before .before .args in
     let e = c .gains-used .ensures in
     let o = one-small (active (a .mode) (getD (now (a .row)) (l .loop .bin) 0)) in
     search needs
@@ -95,13 +95,13 @@ loop-again c =
     let r = v .before in
     let g = r .before .before .before .before in
     let l = g .before .before .before in
-    let s = l .before .before .before .before .before .before in
+    let s = l .before .before .before .before .before .before .before in
     let a = s .args in
     let h = getD (now (a .row)) (l .loop .bin) 0 in
     let G = item (binOf (a .mode) h (g .gain-at .result)) .dec (drop (bitAt (l .loop .p)) (bitsOf (now (a .src)))) in
     let e = c .gains-used .ensures in
     let o = one-small (active (a .mode) h) in
-    let w = s .pre .1 .1 .1 .1 in (
+    let w = s .pre .1 .1 .1 .1 .1 in (
       omega arith,
       omega arith,
       omega arith,

@@ -15,11 +15,18 @@ mul-indices c = search needs
 slice-write-indices : tie.Need-slice-write-indices
 slice-write-indices c = search needs
 
+scale-at-requires : tie.Need-scale-at-requires
+scale-at-requires c κs = search needs
+
 mul-read-six : tie.Need-mul-read-six
 mul-read-six c = search needs
 
 read-six-requires : tie.Need-read-six-requires
-read-six-requires c κs = search needs
+read-six-requires c κs =
+    let k = c .before .before in
+    let s = k .before .before .before .before .before in
+    let w = s .pre .1 .1 .1 in
+    (s .pre .0, (k .scale-at .ensures, (s .pre .1 .0, (omega arith, omega arith))))
 
 same-length : tie.Need-same-length
 same-length c = search needs
@@ -33,7 +40,7 @@ same-length-3 c = search needs
 returns : tie.Need-returns
 returns c =
     let r = c .before .before .before in
-    let s = r .before .before .before .before .before .before in
+    let s = r .before .before .before .before .before .before .before .before in
     let a = s .args in
     let e = r .read-six .ensures in
     codes-put (a .hebap) (a .gk) (a .bin) (8 * length (now (a .src))) (drop (bitAt (a .pos)) (bitsOf (now (a .src)))) (now (a .values)) _ (now (a .exact)) _ (now (a .indices)) _ (omega arith) (e .0) (e .1 .0) (e .1 .1)
@@ -44,6 +51,7 @@ read-codes-spec =
     (tie.spec
     mul-indices
     slice-write-indices
+    scale-at-requires
     mul-read-six
     read-six-requires
     same-length

@@ -22,26 +22,28 @@ vq-bits-requires c κs = search needs
 cast-n : tie.Need-cast-n
 cast-n c = search needs
 
-cast-holds : tie.Need-cast-holds
-cast-holds c = search needs
-
-holds-requires : tie.Need-holds-requires
-holds-requires c κs = search needs
+holds-few-requires : tie.Need-holds-few-requires
+holds-few-requires c κs =
+    let s = c .before .before .before .before in
+    let m = vq-most (s .args .hebap) in
+    let e = c .vq-bits .ensures in
+    let i = s .pre .1 .0 in
+    search needs
 
 returns : tie.Need-returns
 returns c =
     let b = c .before .before in
     let s = b .before .before .before .before in
     let a = s .args in
-    let f : 8 * length (now (a .src)) < bitAt (a .pos) + 1 * b .vq-bits .result = leb-false _ _ (sym (c .before .holds .ensures) ∙ not-true _ (c .if1 .taken)) in
+    let f : 8 * length (now (a .src)) < bitAt (a .pos) + b .vq-bits .result = leb-false _ _ (sym (c .before .holds-few .ensures) ∙ not-true _ (c .if1 .taken)) in
     rw (index-missing (a .hebap) (b .vq-bits .result) (now (a .src)) (a .pos) (b .vq-bits .ensures) (s .pre .1 .0 .0) f) (refl, tt)
 
 -- the bits are there
 there : (c : tie.Else1)
     → let b = c .before .before in
     let a = b .before .before .before .before .args in
-    bitAt (a .pos) + 1 * b .vq-bits .result ≤ 8 * length (now (a .src))
-there c = leb-true _ _ (sym (c .before .holds .ensures) ∙ not-false _ (c .if1 .left))
+    bitAt (a .pos) + b .vq-bits .result ≤ 8 * length (now (a .src))
+there c = leb-true _ _ (sym (c .before .holds-few .ensures) ∙ not-false _ (c .if1 .left))
 
 -- what they show
 small : (c : tie.After-number)
@@ -82,11 +84,12 @@ mul-indices c = search needs
 slice-write-indices : tie.Need-slice-write-indices
 slice-write-indices c = search needs
 
-cast-after : tie.Need-cast-after
-cast-after c = search needs
-
-after-requires : tie.Need-after-requires
-after-requires c κs =
+past-requires : tie.Need-past-requires
+past-requires c κs =
+    let b = c .before .before .before .before .before .before .before .before .before in
+    let s = b .before .before .before .before in
+    let m = vq-most (s .args .hebap) in
+    let e = b .vq-bits .ensures in
     let f = there (c .before .before .before .before .before .before .before) in
     search needs
 
@@ -107,8 +110,8 @@ returns-2 c =
     let s = b .before .before .before .before in
     let a = s .args in
     let e = w .put-vector .ensures in
-    let k = index-there (a .hebap) (b .vq-bits .result) (now (a .src)) (a .pos) (b .vq-bits .ensures) (there (n .before)) (n .number .result) (n .number .ensures) (c .after .result) (c .after .ensures) in
-    rw (k .0) (ap ScalarResult.Done (sym (pos-is (now (a .src)) (c .after .result) (k .1))), (e .0, e .1, sym (splice-one (now (a .indices)) (a .bin) _ (s .pre .1 .1 .1 .3))))
+    let k = index-there (a .hebap) (b .vq-bits .result) (now (a .src)) (a .pos) (b .vq-bits .ensures) (there (n .before)) (n .number .result) (n .number .ensures) (c .past .result) (c .past .ensures) in
+    rw (k .0) (ap ScalarResult.Done (sym (pos-is (now (a .src)) (c .past .result) (k .1))), (e .0, e .1, sym (splice-one (now (a .indices)) (a .bin) _ (s .pre .1 .1 .1 .3))))
 
 pub read-index-spec : {M : Type 1} → statement M
 read-index-spec =
@@ -116,8 +119,7 @@ read-index-spec =
     (tie.spec
     vq-bits-requires
     cast-n
-    cast-holds
-    holds-requires
+    holds-few-requires
     returns
     number-requires
     cast-put-vector
@@ -126,8 +128,7 @@ read-index-spec =
     cast-indices
     mul-indices
     slice-write-indices
-    cast-after
-    after-requires
+    past-requires
     same-length
     same-length-2
     same-length-3

@@ -14,8 +14,8 @@ use Rattle.reader.proofs.read_known.Tie as tie
 
 read-field-requires : tie.Need-read-field-requires
 read-field-requires c κs =
-    let h = c .before .before .before .before .before .before .before .before .before .before .before .pre in
-    (h .0, (h .1 .0, (h .1 .1 .0, (h .1 .1 .1 .1 .0, (h .1 .1 .1 .1 .1 .0, (omega arith, omega arith, omega arith))))))
+    let h = c .before .before .before .before .before .before .before .before .before .before .before .before .pre in
+    (h .0, (h .1 .0, (h .1 .1 .0, (h .1 .1 .1 .1 .0, (h .1 .1 .1 .1 .1 .0, (h .1 .1 .1 .1 .1 .1 .0, (omega arith, omega arith, omega arith)))))))
 
 enum-known-r : tie.Need-enum-known-r
 enum-known-r c = search needs
@@ -25,7 +25,7 @@ enum-known-r-2 c = search needs
 
 hand-out-requires : tie.Need-hand-out-requires
 hand-out-requires c κs =
-    let h = c .before .before .before .before .before .before .before .before .before .before .before .before .before .before .before .before .before .before .before .before .before .before .before .before .before .before .before .before .pre in
+    let h = c .before .before .before .before .before .before .before .before .before .before .before .before .before .before .before .before .before .before .before .before .before .before .before .before .before .before .before .before .before .pre in
     ((h .0 .0, h .0 .1), ((search needs, search needs, search needs), (search needs, search needs, search needs)))
 
 same-length : tie.Need-same-length
@@ -43,7 +43,7 @@ same-length-4 c = search needs
 returns : tie.Need-returns
 returns c =
     let f = c .before .before .before .before .before .before .before .before .before .before in
-    let a = f .before .before .before .before .before .before .before .before .before .before .before .before .args in
+    let a = f .before .before .before .before .before .before .before .before .before .before .before .before .before .args in
     let e : field (partOf (now (a .hebap)) (a .start) (a .end)) .dec (drop (bitAt (a .pos)) (bitsOf (now (a .src)))) ≡ refused (c .before .r .given .0 .0) =
     field-stop (f .read-field .result) _ (8 * length (now (a .src))) _ (f .read-field .ensures .0) (c .before .r .given .1) in
     rw e (refl, (refl, (refl, (refl, tt))))
@@ -74,12 +74,12 @@ returns-2 c =
     let h = c .before .before .before .before .before in
     let r = h .before .before .before .before .before .before .before .before in
     let f = r .before .before .before .before .before .before .before .before .before in
-    let s = f .before .before .before .before .before .before .before .before .before .before .before .before in
+    let s = f .before .before .before .before .before .before .before .before .before .before .before .before .before in
     let a = s .args in
     let few : a .end ≤ 256 = s .pre .0 .1 in
-    let lv : length (now (a .v)) ≡ 1536 = s .pre .1 .1 .1 .1 .1 .1 .0 in
-    let le : length (now (a .e)) ≡ 1536 = s .pre .1 .1 .1 .1 .1 .1 .1 in
-    let lx : length (now (a .x)) ≡ 256 = s .pre .1 .1 .1 .1 .1 .1 .2 in
+    let lv : length (now (a .v)) ≡ 1536 = s .pre .1 .1 .1 .1 .1 .1 .1 .0 in
+    let le : length (now (a .e)) ≡ 1536 = s .pre .1 .1 .1 .1 .1 .1 .1 .1 in
+    let lx : length (now (a .x)) ≡ 256 = s .pre .1 .1 .1 .1 .1 .1 .1 .2 in
     handed-out (now (a .hebap)) (a .start) (a .end) (s .pre .0 .0) (s .pre .0 .2) (now (a .src)) (bitAt (a .pos)) (now (a .gains)) _ (now (a .v)) _ (now (a .e)) _ (now (a .x)) _ (omega arith) (omega arith) (omega arith) (f .read-field .result) _ _ _ (now (a .values)) _ (now (a .exact)) _ (now (a .indices)) _ (f .read-field .ensures .0) (r .r2 .given .1) (f .read-field .ensures .1) (h .hand-out .ensures .0) (h .hand-out .ensures .1 .0) (h .hand-out .ensures .1 .1)
 
 pub read-known-spec : {M : Type 1} → statement M

@@ -15,22 +15,22 @@ use Rattle.reader.proofs.read_with.Statement.{statement}
 use Rattle.reader.proofs.read_with.Tie as tie
 
 -- none of causes 1 to 4 holds,
-none : (c : tie.Else1) → let a = c .before .before .before .before .before .before .before .before .before .args in readCause (now (a .hebap)) (a .start) (a .end) (length (now (a .values))) (length (now (a .exact))) (length (now (a .indices))) ≡ 0
+none : (c : tie.Else1) → let a = c .before .before .before .before .before .before .before .before .before .before .args in readCause (now (a .hebap)) (a .start) (a .end) (length (now (a .values))) (length (now (a .exact))) (length (now (a .indices))) ≡ 0
 none c = sym (c .before .read-cause .ensures) ∙ c .if1 .left
 
-within : (c : tie.Else1) → let a = c .before .before .before .before .before .before .before .before .before .args in Within (now (a .hebap)) (a .start) (a .end) (length (now (a .values))) (length (now (a .exact))) (length (now (a .indices)))
-within c = let a = c .before .before .before .before .before .before .before .before .before .args in read-none (now (a .hebap)) (a .start) (a .end) (length (now (a .values))) (length (now (a .exact))) (length (now (a .indices))) (none c)
+within : (c : tie.Else1) → let a = c .before .before .before .before .before .before .before .before .before .before .args in Within (now (a .hebap)) (a .start) (a .end) (length (now (a .values))) (length (now (a .exact))) (length (now (a .indices)))
+within c = let a = c .before .before .before .before .before .before .before .before .before .before .args in read-none (now (a .hebap)) (a .start) (a .end) (length (now (a .values))) (length (now (a .exact))) (length (now (a .indices))) (none c)
 
 -- and the position is not past the end
-inside : (c : tie.Then2) → let a = c .before .before .before .before .before .before .before .before .before .before .before .args in bitAt (a .pos) ≤ 8 * length (now (a .src))
+inside : (c : tie.Then2) → let a = c .before .before .before .before .before .before .before .before .before .before .before .before .args in bitAt (a .pos) ≤ 8 * length (now (a .src))
 inside c =
-    let a = c .before .before .before .before .before .before .before .before .before .before .before .args in
+    let a = c .before .before .before .before .before .before .before .before .before .before .before .before .args in
     let h : bitAt (a .pos) + 1 * 0 ≤ 8 * length (now (a .src)) = leb-true _ _ (sym (c .before .holds .ensures) ∙ c .if2 .taken) in
     omega arith
 
-place : (c : tie.After-after) → let a = c .before .before .before .before .before .before .before .before .before .before .before .before .args in c .after .result ≡ posOf (bitAt (a .pos))
+place : (c : tie.After-after) → let a = c .before .before .before .before .before .before .before .before .before .before .before .before .before .args in c .after .result ≡ posOf (bitAt (a .pos))
 place c =
-    let a = c .before .before .before .before .before .before .before .before .before .before .before .before .args in
+    let a = c .before .before .before .before .before .before .before .before .before .before .before .before .before .args in
     let e : bitAt (a .pos) + 1 * 0 ≡ bitAt (a .pos) = omega arith in
     c .after .ensures ∙ ap posOf e
 
@@ -40,7 +40,7 @@ read-cause-requires c κs = search needs
 returns : tie.Need-returns
 returns c =
     let r = c .before in
-    let a = r .before .before .before .before .before .before .before .before .args in
+    let a = r .before .before .before .before .before .before .before .before .before .args in
     rw (found-cause (now (a .src)) (bitAt (a .pos)) (now (a .hebap)) (a .start) (a .end) (length (now (a .values))) (length (now (a .exact))) (length (now (a .indices))) (r .read-cause .result) (r .read-cause .ensures) (c .if1 .taken)) (refl, (refl, (refl, (refl, tt))))
 
 holds-requires : tie.Need-holds-requires
@@ -53,7 +53,7 @@ read-known-requires : tie.Need-read-known-requires
 read-known-requires c κs =
     let k = c .before .before .before .before .before .before .before in
     let w = within (k .before .before .before) in
-    let s = k .before .before .before .before .before .before .before .before .before .before .before .before in
+    let s = k .before .before .before .before .before .before .before .before .before .before .before .before .before in
     let i : Inside (8 * length (now (s .args .src))) (posOf (bitAt (s .args .pos))) = (rw at-pos (inside (k .before)), omega arith) in
     ((w .bins, w .few, w .rows), (w .known, (rw (place k) i, ((w .values, w .exact, w .indices), s .pre))))
 
@@ -83,7 +83,7 @@ returns-2 c =
     let r = c .before .before .before .before .before .before .before .before .before .before .before .before in
     let k = r .before .before .before .before .before .before .before .before in
     let n = k .before .before .before in
-    let a = n .before .before .before .before .before .before .before .before .before .args in
+    let a = n .before .before .before .before .before .before .before .before .before .before .args in
     let p : bitAt (k .after .result) ≡ bitAt (a .pos) = ap bitAt (place k) ∙ at-pos (bitAt (a .pos)) in
     let e : channelRead (now (a .src)) (bitAt (a .pos)) (now (a .hebap)) (a .start) (a .end) (length (now (a .values))) (length (now (a .exact))) (length (now (a .indices))) ≡ field (partOf (now (a .hebap)) (a .start) (a .end)) .dec (drop (bitAt (k .after .result)) (bitsOf (now (a .src)))) =
     rw p (found-field (now (a .src)) (bitAt (a .pos)) (now (a .hebap)) (a .start) (a .end) (length (now (a .values))) (length (now (a .exact))) (length (now (a .indices))) (none n) (inside (k .before))) in
@@ -92,7 +92,7 @@ returns-2 c =
 returns-3 : tie.Need-returns-3
 returns-3 c =
     let n = c .before .before in
-    let a = n .before .before .before .before .before .before .before .before .before .args in
+    let a = n .before .before .before .before .before .before .before .before .before .before .args in
     let h : 8 * length (now (a .src)) < bitAt (a .pos) + 1 * 0 = leb-false _ _ (sym (c .before .holds .ensures) ∙ c .if2 .left) in
     rw (found-past (now (a .src)) (bitAt (a .pos)) (now (a .hebap)) (a .start) (a .end) (length (now (a .values))) (length (now (a .exact))) (length (now (a .indices))) (none n) (omega arith)) (refl, (refl, (refl, (refl, tt))))
 

@@ -7,12 +7,20 @@ use Rattle.bits.specs.Bits.{bitsOf, bitAt}
 use Rattle.tables.specs.Tables.{mantBits}
 use Rattle.levels.specs.Codes.{six}
 use Rattle.scalars.proofs.Six.{values-none, values-all}
+use native.Mathlib.Omega.{arith}
 use borrow.Author.Needs.{needs}
 use Rattle.scalars.proofs.read_values.Statement.{statement}
 use Rattle.scalars.proofs.read_values.Tie as tie
 
+scale-of-requires : tie.Need-scale-of-requires
+scale-of-requires c κs = search needs
+
 read-six-requires : tie.Need-read-six-requires
-read-six-requires c κs = search needs
+read-six-requires c κs =
+    let k = c .before .before in
+    let s = k .before .before .before .before in
+    let l = s .pre .1 .1 in
+    (s .pre .0, (k .scale-of .ensures, (s .pre .1 .0, (omega arith, omega arith))))
 
 enum-known-r : tie.Need-enum-known-r
 enum-known-r c = search needs
@@ -32,7 +40,7 @@ same-length-2 c = search needs
 returns : tie.Need-returns
 returns c =
     let r = c .before .before .before .before .before .before in
-    let a = r .before .before .before .before .before .before .args in
+    let a = r .before .before .before .before .before .before .before .args in
     let bs = drop (bitAt (a .pos)) (bitsOf (now (a .src))) in
     values-none (a .hebap) (a .gk) (8 * length (now (a .src))) bs (now (a .out)) _ (six (mantBits (a .hebap)) (a .gk) .dec bs) (sym (c .before .r .given .1) ∙ r .read-six .ensures .0)
 
@@ -49,7 +57,7 @@ returns-2 : tie.Need-returns-2
 returns-2 c =
     let k = c .before .before .before .before .before in
     let r = k .before .before .before .before .before .before in
-    let s = r .before .before .before .before .before .before in
+    let s = r .before .before .before .before .before .before .before in
     let a = s .args in
     let bs = drop (bitAt (a .pos)) (bitsOf (now (a .src))) in
     let e =
@@ -60,6 +68,7 @@ pub read-values-spec : {M : Type 1} → statement M
 read-values-spec =
     tie.close
     (tie.spec
+    scale-of-requires
     read-six-requires
     enum-known-r
     enum-known-r-2

@@ -1,0 +1,105 @@
+-- `planner::tagged_bits` meets its contract. Assumes nothing.
+use Prim.Native.Nat.{_-_, _+_, _*_, _≤_}
+use mathlib.Core.Path.{_≡_, sym, ap}
+use lib.Ieee.{le}
+use Rattle.planner.specs.Bins.{sumOver}
+use Rattle.planner.specs.Work.{tagged, taggedBits}
+use Rattle.planner.proofs.Over.{sum-none, sum-end}
+use Rattle.planner.proofs.Steps.{one-small, tagged-most, tagged-turn, product-most}
+use native.Mathlib.Nat.{le-refl}
+use native.Mathlib.Omega.{arith}
+use borrow.Author.Needs.{needs}
+use Rattle.planner.proofs.tagged_bits.Statement.{statement}
+use Rattle.planner.proofs.tagged_bits.Tie as tie
+
+abbrev Inv-loop : tie.InvT-loop
+Inv-loop x a limit small large n₀ i₀ end n i = (a ≤ i) × (i ≤ a + 6) × (n ≡ sumOver (tagged limit x) a i)
+
+abbrev μ-loop : tie.MeasureT-loop
+μ-loop x a limit small large n₀ i₀ end n i = a + 6 - i
+
+-- at most six take the tag
+most : (l : tie.At-loop Inv-loop μ-loop) → l .loop .n ≤ 6
+most l = let a = l .before .before .args in let v = l .loop .inv in tagged-most (a .limit) (a .x .now) (a .a) (l .loop .i) (l .loop .n) (v .1) (v .2)
+
+-- the bits of the large codes
+large-most : (l : tie.At-loop Inv-loop μ-loop) → l .loop .n * l .before .before .args .large ≤ 192
+large-most l = let s = l .before .before in let t = most l in product-most (l .loop .n) (s .args .large) (omega arith) (s .pre .1 .1)
+
+add-end : tie.Need-add-end Inv-loop μ-loop
+add-end c = search needs
+
+loop-holds : tie.Need-loop-holds Inv-loop μ-loop
+loop-holds c = let a = c .before .args in (le-refl (a .a), omega arith, sym (sum-none (tagged (a .limit) (a .x .now)) (a .a) (a .a) (le-refl (a .a))))
+
+mul-size : tie.Need-mul-size Inv-loop μ-loop
+mul-size c = search needs
+
+shared-slice-read-size : tie.Need-shared-slice-read-size Inv-loop μ-loop
+shared-slice-read-size c = search needs
+
+size-requires : tie.Need-size-requires Inv-loop μ-loop
+size-requires c κs = search needs
+
+one-if-requires : tie.Need-one-if-requires Inv-loop μ-loop
+one-if-requires c κs = search needs
+
+add-n : tie.Need-add-n Inv-loop μ-loop
+add-n c =
+    let l = c .before .before .before .before in
+    let t = most l in
+    let e = c .one-if .ensures in
+    let o = one-small (le (l .before .before .args .limit) (c .before .size .result)) in
+    omega arith
+
+add-i : tie.Need-add-i Inv-loop μ-loop
+add-i c = search needs
+
+loop-less : tie.Need-loop-less Inv-loop μ-loop
+loop-less c = search needs
+
+loop-again : tie.Need-loop-again Inv-loop μ-loop
+loop-again c =
+    let z = c .before .size in
+    let l = c .before .before .before .before in
+    let a = l .before .before .args in
+    let v = l .loop .inv in
+    (omega arith, omega arith, tagged-turn (a .limit) (a .x .now) (a .a) (l .loop .i) (l .loop .n) (z .result) (c .one-if .result) (v .0) (v .2) (z .ensures) (c .one-if .ensures))
+
+mul-result : tie.Need-mul-result Inv-loop μ-loop
+mul-result c = search needs
+
+mul-result-2 : tie.Need-mul-result-2 Inv-loop μ-loop
+mul-result-2 c = let p = large-most (c .before) in omega arith
+
+add-result : tie.Need-add-result Inv-loop μ-loop
+add-result c = let p = large-most (c .before) in let u = c .before .before .before .pre .1 .0 in omega arith
+
+returns : tie.Need-returns Inv-loop μ-loop
+unfolding taggedBits
+returns c =
+    let l = c .before in
+    let a = l .before .before .args in
+    let v = l .loop .inv in
+    ap (λ n. 6 * a .small + n * a .large) (sum-end (tagged (a .limit) (a .x .now)) (a .a) (l .loop .i) (a .a + 6) (l .loop .n) (v .1) (c .loop-test .left) (v .2))
+
+pub tagged-bits-spec : {M : Type 1} → statement M
+tagged-bits-spec =
+    tie.close
+    (tie.spec
+    Inv-loop
+    μ-loop
+    add-end
+    loop-holds
+    mul-size
+    shared-slice-read-size
+    size-requires
+    one-if-requires
+    add-n
+    add-i
+    loop-less
+    loop-again
+    mul-result
+    mul-result-2
+    add-result
+    returns)

@@ -1,0 +1,132 @@
+-- `scalars::read_near_end` meets its contract: before each turn the codes read so far are known (Six.SoFar). Assumes nothing.
+use Prim.Native.Nat.{_-_, _*_, _≤_}
+use mathlib.Core.Path.{_≡_, refl, sym, ap, _∙_}
+use denote.Ref.{now}
+use lib.ListN.{length, drop, length-set}
+use Rattle.bits.specs.Bits.{bitsOf, bitAt, Inside}
+use Rattle.bits.specs.Format.{got}
+use Rattle.tables.specs.Tables.{mantBits}
+use Rattle.levels.specs.Codes.{coded}
+use Rattle.scalars.specs.Scalars.{codeIn}
+use Rattle.scalars.proofs.Six.{SoFar, none-yet, in-lists, one-more, cut, cut-there, put, done, done-there, code-accepted}
+use native.Mathlib.Omega.{arith}
+use borrow.Author.Needs.{needs}
+use Rattle.scalars.proofs.read_near_end.Statement.{statement}
+use Rattle.scalars.proofs.read_near_end.Tie as tie
+
+abbrev Inv-loop : tie.InvT-loop
+Inv-loop s src hebap gk at values₀ exact₀ p₀ j₀ values exact p j =
+    SoFar hebap gk at src (bitAt p₀) values₀ exact₀ p j values exact × (length values ≡ length values₀) × (length exact ≡ length exact₀)
+
+abbrev μ-loop : tie.MeasureT-loop
+μ-loop s src hebap gk at values₀ exact₀ p₀ j₀ values exact p j = 6 - j
+
+loop-holds : tie.Need-loop-holds Inv-loop μ-loop
+loop-holds c = let b = c .before .before in let a = b .args in (none-yet (a .hebap) (a .gk) (a .at) (now (a .src)) (bitAt (a .pos)) (now (a .values)) (now (a .exact)) (a .pos) refl (b .pre .1 .1 .0), refl, refl)
+
+read-code-requires : tie.Need-read-code-requires Inv-loop μ-loop
+read-code-requires c κs = search needs
+
+enum-known-r : tie.Need-enum-known-r Inv-loop μ-loop
+enum-known-r c = search needs
+
+same-length : tie.Need-same-length Inv-loop μ-loop
+same-length c = search needs
+
+same-length-2 : tie.Need-same-length-2 Inv-loop μ-loop
+same-length-2 c = search needs
+
+returns : tie.Need-returns Inv-loop μ-loop
+returns c =
+    let l = c .before .before .before .before .before in
+    let a = l .before .before .before .args in
+    let r = c .before .before .before in
+    let e = sym (r .read-code .ensures .0) ∙ ap (codeIn (bitsOf (now (a .src)))) (c .before .r .given .1) in
+    let f = l .loop .inv .0 in
+    let q = cut-there (a .hebap) (a .gk) (a .at) (now (a .src)) (bitAt (a .pos)) (now (a .values)) (now (a .exact)) (l .loop .p) (l .loop .j) (l .loop .values) (l .loop .exact) f (omega arith) _ e in
+    let w = put (a .hebap) (a .gk) (a .at) (now (a .src)) (bitAt (a .pos)) (now (a .values)) (now (a .exact)) (l .loop .p) (l .loop .j) (l .loop .values) (l .loop .exact) f q in
+    (rw (cut (a .hebap) (a .gk) (a .at) (now (a .src)) (bitAt (a .pos)) (now (a .values)) (now (a .exact)) (l .loop .p) (l .loop .j) (l .loop .values) (l .loop .exact) f (omega arith) _ e) refl, (w .0, w .1))
+
+enum-known-r-2 : tie.Need-enum-known-r-2 Inv-loop μ-loop
+enum-known-r-2 c = search needs
+
+-- the code that a match has taken out, and the position behind it
+code-is : (c : tie.After-known-told2 Inv-loop μ-loop) → let l = c .before .before .before .before .before in let a = l .before .before .before .args in let g = c .before .r2 .given in
+    coded (mantBits (a .hebap)) (a .gk) .dec (drop (bitAt (l .loop .p)) (bitsOf (now (a .src)))) ≡ got (g .0 .0) (drop (bitAt (g .0 .1 .0)) (bitsOf (now (a .src))))
+code-is c =
+    let r = c .before .before .before in
+    let a = r .before .before .before .before .before .args in
+    sym (r .read-code .ensures .0) ∙ ap (codeIn (bitsOf (now (a .src)))) (c .before .r2 .given .1)
+
+next-in : (c : tie.After-known-told2 Inv-loop μ-loop) → let a = c .before .before .before .before .before .before .before .before .args in Inside (8 * length (now (a .src))) (c .before .r2 .given .0 .1 .0)
+next-in c =
+    let r = c .before .before .before in
+    rw (c .before .r2 .given .1) at (r .read-code .ensures .1)
+
+add-put-code : tie.Need-add-put-code Inv-loop μ-loop
+add-put-code c = let d = c .before .before .before .before .before .before .before .before in search needs
+
+put-code-requires : tie.Need-put-code-requires Inv-loop μ-loop
+put-code-requires c κs =
+    let k = c .before .before in
+    let s = k .before .before .before .before .before .before .before .before in
+    let l = k .before .before .before .before .before in
+    (s .pre .0, (s .pre .1 .0, (code-accepted (s .args .hebap) (s .args .gk) _ _ _ (code-is k), (omega (arith, l .loop .inv .1, s .pre .1 .1 .1), omega (arith, l .loop .inv .2, s .pre .1 .1 .1)))))
+
+add-j : tie.Need-add-j Inv-loop μ-loop
+add-j c = search needs
+
+loop-less : tie.Need-loop-less Inv-loop μ-loop
+loop-less c = search needs
+
+loop-again : tie.Need-loop-again Inv-loop μ-loop
+loop-again c =
+    let b = c .before .before .before in
+    let k = b .before .before .before in
+    let l = k .before .before .before .before .before in
+    let s = l .before .before .before in
+    let a = s .args in
+    let w = s .pre .1 .1 .1 in (
+      in-lists (a .hebap) (a .gk) (a .at) (now (a .src)) (bitAt (a .pos)) (now (a .values)) (now (a .exact)) _ _ _ _ _ _ (b .put-code .ensures .0) (b .put-code .ensures .1)
+          (one-more (a .hebap) (a .gk) (a .at) (now (a .src)) (bitAt (a .pos)) (now (a .values)) (now (a .exact)) (l .loop .p) (l .loop .j) (l .loop .values) (l .loop .exact) (l .loop .inv .0) (omega arith)
+          (k .before .r2 .given .0 .0) (k .before .r2 .given .0 .1 .0) _ _ (w .0) (w .1) (next-in k) (code-is k) refl refl),
+      c .before .before .values .given ∙ l .loop .inv .1,
+      c .exact .given ∙ l .loop .inv .2,
+    )
+
+same-length-3 : tie.Need-same-length-3 Inv-loop μ-loop
+same-length-3 c = search needs
+
+same-length-4 : tie.Need-same-length-4 Inv-loop μ-loop
+same-length-4 c = search needs
+
+returns-2 : tie.Need-returns-2 Inv-loop μ-loop
+returns-2 c =
+    let l = c .before in
+    let a = l .before .before .before .args in
+    let f = l .loop .inv .0 in
+    let q = done-there (a .hebap) (a .gk) (a .at) (now (a .src)) (bitAt (a .pos)) (now (a .values)) (now (a .exact)) (l .loop .p) (l .loop .j) (l .loop .values) (l .loop .exact) f (omega arith) in
+    let w = put (a .hebap) (a .gk) (a .at) (now (a .src)) (bitAt (a .pos)) (now (a .values)) (now (a .exact)) (l .loop .p) (l .loop .j) (l .loop .values) (l .loop .exact) f q in
+    (done (a .hebap) (a .gk) (a .at) (now (a .src)) (bitAt (a .pos)) (now (a .values)) (now (a .exact)) (l .loop .p) (l .loop .j) (l .loop .values) (l .loop .exact) f (omega arith), (w .0, w .1))
+
+pub read-near-end-spec : {M : Type 1} → statement M
+read-near-end-spec =
+    tie.close
+    (tie.spec
+    Inv-loop
+    μ-loop
+    loop-holds
+    read-code-requires
+    enum-known-r
+    same-length
+    same-length-2
+    returns
+    enum-known-r-2
+    add-put-code
+    put-code-requires
+    add-j
+    loop-less
+    loop-again
+    same-length-3
+    same-length-4
+    returns-2)
