@@ -46,10 +46,11 @@ pub fn times(usual: usize, at_scale: usize) -> usize {
     }
 }
 
-/// Built with --cfg record it needs no proved library: it writes the Rust's answers to the file that the second word names.
+/// Built with --cfg record it needs no proved library: it writes the Rust's answers to the two files that its other words name.
 #[cfg(record)]
 fn main() {
-    record::write(seed(), &std::env::args().nth(2).expect("a file to write"));
+    let file = |n| std::env::args().nth(n).expect("two files to write");
+    record::write(seed(), &file(2), &file(3));
 }
 
 #[cfg(not(record))]

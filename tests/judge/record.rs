@@ -1,7 +1,7 @@
-//! The recorded answers that crates/replay replays: calls with what the Rust answers, 256 bytes each, least significant byte first.
-//! crates/replay/stdin was made by `tests/compare ../shared/docs/src 20261115 record`. read_u32 and write_u32 are the stand-in's
-//! answers, read_aht_channel's those of the Rust's reading functions in the order of document 01 (shown.rs); the numbers of refusals are
-//! document 01's.
+//! The recorded answers that crates/replay and crates/replay_channels replay: calls with what the Rust answers, 256 bytes each, least
+//! significant byte first. Their files stdin were made by `tests/compare ../shared/docs/src 20261115 record`. read_u32, read_first and
+//! write_u32 are the stand-in's answers, read_aht_channel's those of the Rust's reading functions in the order of document 01 (shown.rs);
+//! the numbers of refusals are document 01's.
 //!
 //! 0 function, 1 refusal, 2 to 5 small arguments, 6 length of the input, 7 places of the output, 8 position's byte (8 bytes), 16 its
 //! bit (4), 20 a number of 32 bits, 24 one of 64, 32 the input (24), 56 the output before (24), 80 the output after (24), 104 the
@@ -13,6 +13,10 @@
 //! read_aht_channel: start, end and, after the call, mode and count are the small arguments; the row, of at most two bins, stands in the
 //! output's place, 7 tells how many; after the call the gains stand at 80, values at 128 (48), exact values at 176 (48) and indices at
 //! 224 (4), each byte 0x42 before it; the value is the bits of the field.
+//! plan_write_read: the Rust's plan, its field and what its reading functions show of that. start, mode and count are the first, third
+//! and fourth small argument, end stands at 112 (8), the payload is the number of 32 bits; the row, of at most two bins, stands at 24, 6
+//! tells how many; the vectors stand at 32 (48), 7 tells how many numbers; the output's 24 places, each 0x42 before the call, stand at 80;
+//! the gains stand at 228 (24), the rest as for read_aht_channel.
 use crate::eac3::{aht, ahtenc};
 use crate::random::Random;
 use crate::shown;
@@ -73,6 +77,16 @@ impl Record {
         }
         self
     }
+    /// Values, exact values and indices of the bins from start on.
+    fn show(&mut self, s: &shown::Shown, start: usize) {
+        for k in 0..s.values.len() {
+            self.0[128 + 4 * (6 * start + k)..][..4].copy_from_slice(&s.values[k].to_bits().to_le_bytes());
+            self.0[176 + 4 * (6 * start + k)..][..4].copy_from_slice(&s.exact[k].to_le_bytes());
+        }
+        for k in 0..s.indices.len() {
+            self.0[224 + 2 * (start + k)..][..2].copy_from_slice(&s.indices[k].to_le_bytes());
+        }
+    }
     fn answer(mut self, refusal: u8, value: usize, next: usize) -> Self {
         self.0[1] = refusal;
         self.0[104..112].copy_from_slice(&value.to_le_bytes());
@@ -82,20 +96,23 @@ impl Record {
     }
 }
 
-/// 250 calls of each function.
-pub fn write(seed: u64, path: &str) {
+/// 250 calls of each function; those of a channel go to the second file.
+pub fn write(seed: u64, path: &str, path_channels: &str) {
     let mut random = Random::new(seed);
-    let mut out = Vec::new();
-    for f in 1..=16u8 {
+    let (mut calls, mut channels) = (Vec::new(), Vec::new());
+    for f in 1..=18u8 {
+        let out = if matches!(f, 14..=16 | 18) { &mut channels } else { &mut calls };
         for i in 0..250 {
             out.push(one(f, i, &mut random));
         }
     }
-    let mut file = std::fs::File::create(path).expect("the list can be written");
-    for r in &out {
-        file.write_all(&r.0).expect("the list can be written");
+    for (path, out) in [(path, &calls), (path_channels, &channels)] {
+        let mut file = std::fs::File::create(path).expect("the list can be written");
+        for r in out {
+            file.write_all(&r.0).expect("the list can be written");
+        }
+        println!("record: {} answers of the Rust, seed {seed}", out.len());
     }
-    println!("record: {} answers of the Rust, seed {seed}", out.len());
 }
 
 fn one(f: u8, i: usize, random: &mut Random) -> Record {
@@ -104,8 +121,8 @@ fn one(f: u8, i: usize, random: &mut Random) -> Record {
     let at = random.below(8 * len + 3);
     let over = if i % 7 == 0 { random.below(4) } else { 0 };
     match f {
-        // read_u32
-        1 => {
+        // read_u32, read_first
+        1 | 17 => {
             let n = random.below(35) as u32;
             let r = Record::new(f).src(&src).at(at, over).arg32(n);
             if n > 32 {
@@ -368,16 +385,70 @@ fn one(f: u8, i: usize, random: &mut Random) -> Record {
                 Err(number) => r.args(&[start as u8, end as u8]).answer(number, 0, 0),
                 Ok(s) => {
                     r.0[80..80 + s.gains.len()].copy_from_slice(&s.gains);
-                    for k in 0..6 * (end - start) {
-                        r.0[128 + 4 * (6 * start + k)..][..4].copy_from_slice(&s.values[k].to_bits().to_le_bytes());
-                        r.0[176 + 4 * (6 * start + k)..][..4].copy_from_slice(&s.exact[k].to_le_bytes());
-                    }
-                    for k in 0..end - start {
-                        r.0[224 + 2 * (start + k)..][..2].copy_from_slice(&s.indices[k].to_le_bytes());
-                    }
+                    r.show(&s, start);
                     r.args(&[start as u8, end as u8, s.mode, s.gains.len() as u8]).answer(0, s.bits, 0)
                 }
             }
+        }
+        // plan_write_read: faults that refuse with 1 to 5 and 7, each in turn
+        18 => {
+            let bins = if i % 10 == 0 { random.below(2) } else { 2 };
+            let (mut row, mut x) = channel(random, bins);
+            if i % 2 == 0 {
+                row.iter_mut().for_each(|h| *h = (*h).min(9));
+            }
+            let (mut start, mut end) = (0, bins);
+            match i % 14 {
+                1 => start = end + 1,
+                3 => end = bins + 1,
+                5 if bins > 0 => row[random.below(bins)] = 20 + random.below(236) as u8,
+                7 if bins > 0 => x[random.below(6 * bins)] = random.pick(&[f32::INFINITY, -1025.0]),
+                9 => x.truncate(random.below(6 * bins + 1)),
+                11 if bins > 0 => start = random.below(bins),
+                13 => (start, end) = (255, 257),
+                _ => {}
+            }
+            // the vectors go to their own place, so that their other one is free for the values
+            let mut r = Record::new(f);
+            r.0[6] = bins as u8;
+            r.0[7] = x.len() as u8;
+            r.0[24..24 + bins].copy_from_slice(&row);
+            for (place, v) in r.0[32..80].chunks_exact_mut(4).zip(&x) {
+                place.copy_from_slice(&v.to_bits().to_le_bytes());
+            }
+            let before = [0x42u8; 24];
+            r.0[80..104].copy_from_slice(&before);
+            r.0[128..228].fill(0x42);
+            let number = cause(&row, start, end, &x);
+            let at = random.below(60) + if i % 11 == 0 { 150 } else { 0 };
+            let r = r.at(at, over);
+            if number > 0 {
+                return r.args(&[start as u8]).answer(number, 0, 8 * end);
+            }
+            let plan = ahtenc::plan_aht_channel(&row, start, end, &vectors(&x));
+            let total = 2 + plan.payload_bits as usize;
+            if at + total > 8 * 24 {
+                return r.args(&[start as u8]).answer(7, 0, 8 * end);
+            }
+            let mut w = BitWriter::new();
+            let mut b = BitReader::new(&before);
+            for _ in 0..at {
+                w.write_u32(b.read_u32(1).unwrap(), 1);
+            }
+            ahtenc::write_aht_channel(&mut w, &plan, &row, start, end, &vectors(&x));
+            let mut b = BitReader::at(&before, at + total).unwrap();
+            while let Ok(bit) = b.read_u32(1) {
+                w.write_u32(bit, 1);
+            }
+            let field = w.finish();
+            let s = shown::read(&field, at, &row[start..end]).expect("the Rust reads what it wrote");
+            let gains: Vec<u8> = plan.gains.iter().map(|&code| [1, 2, 4][code as usize]).collect();
+            assert_eq!((s.mode, &s.gains, s.bits), (plan.gaqmod, &gains, total), "the Rust's field shows its plan");
+            let mut r = r.arg32(plan.payload_bits);
+            r.0[80..104].copy_from_slice(&field);
+            r.show(&s, start);
+            r.0[228..228 + gains.len()].copy_from_slice(&gains);
+            r.args(&[start as u8, 0, s.mode, gains.len() as u8]).answer(0, s.bits, 8 * end)
         }
         // read_scalar_aht_mantissas: first every hebap and gain, with codes chosen so that half of them are behind the tag
         _ if i < 216 => {

@@ -1,15 +1,12 @@
--- `fractions::vq_hebap3` meets its contract: one computed test. Assumes nothing.
-use mathlib.Core.Path.{refl}
-use lib.Ieee.{ofBits, div, ofInt}
+-- `fractions::vq_hebap3` meets its contract: `tt` is the test of the whole book. Assumes nothing.
 use Rattle.tables.specs.Numbers.{vqHebap3}
-use Rattle.levels.specs.Value.{q15}
-use Rattle.fractions.specs.Fractions.{column, byComponent, floats}
+use Rattle.fractions.proofs.Patterns.{book-shown}
 use Rattle.fractions.proofs.vq_hebap3.Statement.{statement}
 use Rattle.fractions.proofs.vq_hebap3.Tie as tie
 
 returns : tie.Need-returns
-unfolding vqHebap3 column byComponent floats q15 div ofInt ofBits
-returns c = refl
+unfolding vqHebap3
+returns c = book-shown 16 vqHebap3 _ tt
 
 pub vq-hebap3-spec : {M : Type 1} → statement M
 vq-hebap3-spec = tie.close (tie.spec returns)

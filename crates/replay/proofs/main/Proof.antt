@@ -27,11 +27,11 @@ loop-less c = omega arith
 loop-again : tie.Need-loop-again Inv-loop μ-loop
 loop-again c = tt
 
-print-count-requires : tie.Need-print-count-requires Inv-loop μ-loop
-print-count-requires c κs = tt
+print-requires : tie.Need-print-requires Inv-loop μ-loop
+print-requires c κs = tt
 
 returns : tie.Need-returns Inv-loop μ-loop
 returns c = tt
 
 pub main-spec : {M : Type 1} → statement M
-main-spec = tie.close (tie.spec Inv-loop μ-loop loop-holds next-requires counted-requires sub-turns loop-less loop-again print-count-requires returns)
+main-spec = tie.close (tie.spec Inv-loop μ-loop loop-holds next-requires counted-requires sub-turns loop-less loop-again print-requires returns)

@@ -1,8 +1,8 @@
--- `replay::gains_of` meets its contract. Nothing has to hold from turn to turn. Assumes nothing.
+-- `replay_channels::gains_of` meets its contract. Nothing has to hold from turn to turn. Assumes nothing.
 use Prim.Native.Nat.{_-_}
 use borrow.Author.Needs.{needs}
-use Rattle.replay.proofs.gains_of.Statement.{statement}
-use Rattle.replay.proofs.gains_of.Tie as tie
+use Rattle.replay_channels.proofs.gains_of.Statement.{statement}
+use Rattle.replay_channels.proofs.gains_of.Tie as tie
 
 abbrev Inv-loop : tie.InvT-loop
 Inv-loop r gains₀ i₀ gains i = Unit {0}

@@ -1,11 +1,11 @@
--- `replay::same_float` meets its contract: what equals itself is no NaN, so it has bits. Assumes nothing.
+-- `records::same_float` meets its contract: what equals itself is no NaN, so it has bits. Assumes nothing.
 use mathlib.Core.Path.{_≡_}
 use mathlib.Core.Bool.{false, not, true≢false}
 use lib.Dec.{T}
 use lib.Ieee.{Float, nan, inf, fin, ne, isNan}
 use borrow.Author.Needs.{needs}
-use Rattle.replay.proofs.same_float.Statement.{statement}
-use Rattle.replay.proofs.same_float.Tie as tie
+use Rattle.records.proofs.same_float.Statement.{statement}
+use Rattle.records.proofs.same_float.Tie as tie
 
 is-number : (y : Float) → ne y y ≡ false → T (not (isNan y))
 unfolding ne isNan

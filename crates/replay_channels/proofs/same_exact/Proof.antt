@@ -1,8 +1,8 @@
--- `replay::same_exact` meets its contract. Nothing has to hold from turn to turn. Assumes nothing.
+-- `replay_channels::same_exact` meets its contract. Nothing has to hold from turn to turn. Assumes nothing.
 use Prim.Native.Nat.{_-_}
 use borrow.Author.Needs.{needs}
-use Rattle.replay.proofs.same_exact.Statement.{statement}
-use Rattle.replay.proofs.same_exact.Tie as tie
+use Rattle.replay_channels.proofs.same_exact.Statement.{statement}
+use Rattle.replay_channels.proofs.same_exact.Tie as tie
 
 abbrev Inv-loop : tie.InvT-loop
 Inv-loop r exact i₀ i = Unit {0}

@@ -1,4 +1,4 @@
--- `replay::float_of` meets its contract: bits up to those of the infinities are no NaN's. Assumes nothing.
+-- `records::float_of` meets its contract: bits up to those of the infinities are no NaN's. Assumes nothing.
 use Prim.Native.Nat.{ℕ, _%_, _≤_}
 use mathlib.Core.Path.{sym, subst, _∙_}
 use mathlib.Core.Bool.{Bool, not}
@@ -6,8 +6,8 @@ use lib.Dec.{T}
 use lib.Ieee.{binary32, nanBits}
 use lib.Ieee.Bits.{nanBits-above}
 use borrow.Author.Tests.{le-ltb}
-use Rattle.replay.proofs.float_of.Statement.{statement}
-use Rattle.replay.proofs.float_of.Tie as tie
+use Rattle.records.proofs.float_of.Statement.{statement}
+use Rattle.records.proofs.float_of.Tie as tie
 
 is-number : (n : ℕ) → n % 2147483648 ≤ 2139095040 → T (not (nanBits binary32 n))
 is-number n h = subst (λ (b : Bool). T (not b)) (sym (nanBits-above binary32 n ∙ le-ltb _ _ h)) tt

@@ -1,0 +1,230 @@
+// What replay and replay_channels share. A record is a call with the answer that the Rust gave (tests/judge/record.rs wrote it):
+// its places, the numbers that stand there, whether an answer is the record's, and the count of answers.
+ghost use Prim.Native.Nat.{_+_, _<_, _≤_};
+use bits::BitPos;
+use bits::BitWrite;
+use libc::STDIN_FILENO;
+use libc::STDOUT_FILENO;
+
+pub type Record = [u8; 256];
+
+// The places of a record.
+pub const REFUSAL: usize = 1;
+
+pub const A: usize = 2;
+
+pub const B: usize = 3;
+
+pub const C: usize = 4;
+
+pub const D: usize = 5;
+
+pub const SRC_LEN: usize = 6;
+
+pub const OUT_LEN: usize = 7;
+
+pub const BYTE: usize = 8;
+
+pub const BIT: usize = 16;
+
+pub const ARG32: usize = 20;
+
+pub const ARG64: usize = 24;
+
+pub const SRC: usize = 32;
+
+pub const OUT: usize = 56;
+
+pub const OUT_AFTER: usize = 80;
+
+pub const VALUE: usize = 104;
+
+pub const NEXT_BYTE: usize = 112;
+
+pub const NEXT_BIT: usize = 120;
+
+pub const VECTORS: usize = 128;
+
+pub const EXACT: usize = 176;
+
+pub const INDICES: usize = 224;
+
+pub const GAINS: usize = 228;
+
+// A function, how many answers of it were replayed, and how many of them were wrong.
+pub struct Count {
+    pub function: u8,
+    pub answers: u64,
+    pub wrong: u64,
+}
+
+// A byte as a number of 64 bits.
+pub fn wide(b: u8) -> u64
+    ensures { λ v. ⌜ v < 256 ⌝ }
+{
+    b as u64
+}
+
+// The numbers of 16, 32 and 64 bits at a place, the least significant byte first.
+pub fn number16(r: &Record, at: usize) -> u64
+    requires { ⌜ at + 2 ≤ 256 ⌝ }
+    ensures { λ v. ⌜ v < 0x1_0000 ⌝ }
+{
+    wide(r[at]) + 256 * wide(r[at + 1])
+}
+
+pub fn number32(r: &Record, at: usize) -> u64
+    requires { ⌜ at + 4 ≤ 256 ⌝ }
+    ensures { λ v. ⌜ v < 0x1_0000_0000 ⌝ }
+{
+    number16(r, at) + 0x1_0000 * number16(r, at + 2)
+}
+
+pub fn number64(r: &Record, at: usize) -> u64
+    requires { ⌜ at + 8 ≤ 256 ⌝ }
+{
+    number32(r, at) + 0x1_0000_0000 * number32(r, at + 4)
+}
+
+// The position of the call.
+pub fn position(r: &Record) -> BitPos {
+    BitPos {
+        byte: number64(r, BYTE) as usize,
+        bit: number32(r, BIT) as u32,
+    }
+}
+
+// The number that the bits of v are in two's complement.
+pub fn signed8(v: u8) -> i8 {
+    if v < 0x80 {
+        v as i8
+    } else {
+        !((0xff - v) as i8)
+    }
+}
+
+pub fn signed16(v: u64) -> i16
+    requires { ⌜ v < 0x1_0000 ⌝ }
+{
+    if v < 0x8000 {
+        v as i16
+    } else {
+        !((0xffff - v) as i16)
+    }
+}
+
+pub fn signed32(v: u64) -> i32
+    requires { ⌜ v < 0x1_0000_0000 ⌝ }
+{
+    if v < 0x8000_0000 {
+        v as i32
+    } else {
+        !((0xffff_ffff - v) as i32)
+    }
+}
+
+// A length of the record, at most 24.
+pub fn size(b: u8) -> usize
+    ensures { λ n. ⌜ n ≤ 24 ⌝ }
+{
+    if b < 24 { b as usize } else { 24 }
+}
+
+// The input of the call.
+pub fn input(r: &Record) -> &[u8] {
+    let all = &r[..];
+    let end = SRC + size(r[SRC_LEN]);
+    &all[SRC..end]
+}
+
+// Whether the answer has the record's refusal and value.
+pub fn same_value(r: &Record, refusal: u8, value: u64) -> bool {
+    r[REFUSAL] == refusal && number64(r, VALUE) == value
+}
+
+// Whether the position is the record's.
+pub fn same_place(r: &Record, p: BitPos) -> bool {
+    number64(r, NEXT_BYTE) == p.byte as u64 && number32(r, NEXT_BIT) as u32 == p.bit
+}
+
+// Whether the n places of the output, in a copy of the record, are what the record has after the call.
+pub fn same_out(r: &Record, out: &Record, n: usize) -> bool
+    requires { ⌜ n ≤ 24 ⌝ }
+{
+    let given = &out[..];
+    let wanted = &r[..];
+    let end = OUT + n;
+    let end_after = OUT_AFTER + n;
+    check::same(&given[OUT..end], &wanted[OUT_AFTER..end_after])
+}
+
+// Whether the answer of a call that writes is the record's.
+pub fn same_written(r: &Record, answer: BitWrite) -> bool {
+    match answer {
+        BitWrite::Done(q) => same_value(r, 0, 0) && same_place(r, q),
+        BitWrite::Refused(k) => same_value(r, k, 0),
+    }
+}
+
+// Whether y has the bits that the record has at a place. A NaN has no bits of its own, and no answer is one.
+pub fn same_float(r: &Record, at: usize, y: f32) -> bool
+    requires { ⌜ at + 4 ≤ 256 ⌝ }
+{
+    if y != y {
+        return false;
+    }
+    f32::to_bits(y) == number32(r, at) as u32
+}
+
+// Whether the six have the bits of the output after the call.
+pub fn same_floats(r: &Record, y: &[f32; 6]) -> bool {
+    same_float(r, OUT_AFTER, y[0])
+        && same_float(r, OUT_AFTER + 4, y[1])
+        && same_float(r, OUT_AFTER + 8, y[2])
+        && same_float(r, OUT_AFTER + 12, y[3])
+        && same_float(r, OUT_AFTER + 16, y[4])
+        && same_float(r, OUT_AFTER + 20, y[5])
+}
+
+// The f32 of these bits. No record has a NaN, whose bits name no number.
+fn float_of(bits: u32) -> f32 {
+    if 0x7f80_0000 < bits % 0x8000_0000 {
+        return 0.0;
+    }
+    f32::from_bits(bits)
+}
+
+// The f32 at a place.
+pub fn number(r: &Record, at: usize) -> f32
+    requires { ⌜ at + 4 ≤ 256 ⌝ }
+{
+    float_of(number32(r, at) as u32)
+}
+
+// The count with one more answer.
+pub fn one_more(c: Count, ok: bool) -> Count {
+    Count {
+        function: c.function,
+        answers: std::num::wrapping_add_u64(c.answers, 1),
+        wrong: if ok {
+            c.wrong
+        } else {
+            std::num::wrapping_add_u64(c.wrong, 1)
+        },
+    }
+}
+
+// Prints a count behind its name.
+pub fn print_count(name: &[u8], c: Count) {
+    io::write_all(STDOUT_FILENO, name);
+    io::write_all(STDOUT_FILENO, b": ");
+    io::print_decimal(STDOUT_FILENO, c.answers);
+    io::write_all(STDOUT_FILENO, b" answers, ");
+    io::print_decimal(STDOUT_FILENO, c.wrong);
+    io::write_all(STDOUT_FILENO, b" wrong\n");
+}
+
+// Reads the next record; false where the input has no whole one any more.
+pub fn next(r: &mut Record) -> bool {
+    io::read_full(STDIN_FILENO, &mut *r) == 256
+}
