@@ -27,6 +27,15 @@ module _ (mode h : ℕ) where
       go true = omega arith
       go false = omega arith
 
+  -- from hebap 8 on
+  pub active-by-end : 8 ≤ h → ltb h (cond (eqb mode 0) 8 (endbap mode)) ≡ active mode h
+  unfolding active
+  active-by-end l = rw (lt-ltb 7 h l) (go (eqb mode 0))
+    where
+      go : (t : Bool) → ltb h (cond t 8 (endbap mode)) ≡ not t && ltb h (endbap mode)
+      go true = le-ltb h 8 l
+      go false = refl
+
   pub active-high : 17 ≤ h → false ≡ active mode h
   unfolding active
   active-high l = let e = end-most in sym (rw (lt-ltb 7 h (omega arith), le-ltb h (endbap mode) (omega arith)) (and-false (not (eqb mode 0))))

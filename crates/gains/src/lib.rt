@@ -1,7 +1,9 @@
 // Gain-adaptive quantisation: which bins have a gain, and the gain words of the field.
 ghost use mathlib.Core.Path.{_≡_};
+ghost use mathlib.Core.Bool.{cond};
 ghost use mathlib.Core.List.{_∷_, []};
 ghost use Prim.Native.Nat.{_+_, _*_, _/_, _≤_, min};
+ghost use lib.Dec.{eqb};
 ghost use lib.ListN.{length, drop};
 ghost use Rattle.bits.specs.Bits.{bitsOf, bitAt};
 ghost use Rattle.gains.specs.Gains.{active, codingOf, allowedGain, gainWordBits, endbapForGaqmod, gainValue, gaqGainValue, gaqSections, fillGaqbin, gaqbinAfter, endbap, gaqbinOf, wordBits, wordCodes, wordsRead, codesFrom, placed, readGaqGains, gainsAfter};
@@ -59,16 +61,25 @@ pub fn coding_of(gaqmod: u8, hebap: u8) -> Coding
     }
 }
 
-// Whether a bin of the hebap has a gain of its own in the mode.
+// A bin has a gain of its own from hebap 8 up to this one, not included.
+fn active_end(gaqmod: u8) -> u8
+    ensures { λ r. ⌜ r ≡ cond (eqb gaqmod 0) 8 (endbap gaqmod) ⌝ }
+{
+    match gaqmod {
+        0 => 8,
+        1 => 12,
+        _ => 17,
+    }
+}
+
+// Whether a bin of the hebap has a gain of its own in the mode. Two comparisons, so that loops over a row take several bins at a time.
 pub fn is_active(gaqmod: u8, hebap: u8) -> bool
     ensures { λ r. ⌜ r ≡ active gaqmod hebap ⌝ }
 {
-    match coding_of(gaqmod, hebap) {
-        Coding::Nothing => false,
-        Coding::Book => false,
-        Coding::Fixed => false,
-        Coding::Adaptive => true,
+    if hebap < 8 {
+        return false;
     }
+    hebap < active_end(gaqmod)
 }
 
 // The bits of the gain words of n active bins.
