@@ -156,18 +156,6 @@ impl BitPos {
         whole + (part + 7) / 8 <= len - q
     }
 
-    // Whether n bits stand in len bytes from this position on, where it is not past their end: with four bytes ahead nothing is counted.
-    pub fn holds_few(self, len: usize, n: u32) -> bool
-        requires { ⌜ (n ≤ 24) × (self .bit < 8) × (self .byte ≤ len) × (len < 2 ^ 63) ⌝ }
-        ensures { λ r. ⌜ r ≡ leb (bitAt self + n) (8 * len) ⌝ }
-    {
-        let byte = self.byte;
-        if byte + 4 <= len {
-            return true;
-        }
-        self.holds(len, 1, n as usize)
-    }
-
     // The position behind count numbers of width bits, of which holds has said that they are there.
     pub fn after(self, width: u32, count: usize) -> BitPos
         requires { ⌜ width ≤ 7 ⌝ }

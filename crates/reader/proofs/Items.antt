@@ -8,7 +8,6 @@ use native.Mathlib.Omega.{arith}
 use lib.IntN.{ℤ}
 use lib.Ieee.{Float}
 use lib.ListN.{length, take, drop, set, replicate, length-replicate, replicate-append-replicate}
-use lib.Pow.{pow-mono}
 use Rattle.bits.specs.Bits.{bitsOf, numberOf, bitAt, posOf, splice, Inside}
 use Rattle.bits.specs.Format.{Got, got, refused, andThen}
 use Rattle.bits.specs.declared.BitPos.{BitPos}
@@ -57,12 +56,9 @@ module _ (h n : ℕ) (s : List ℕ) (p : BitPos) (e : n ≡ vqBits h) where
     index-there i v q k =
         (rw (← e, k, v, number-there s (bitAt p) n few there), rw k (behind-inside s (bitAt p) n few there))
 
-  -- its vector is in the book, and it has at most nine bits
-  pub index-small : (i : ℕ) → i ≡ numberOf (take n (drop (bitAt p) (bitsOf s))) → (i < 2 ^ vqBits h) × (i < 512)
-  index-small i v =
-      let l : i < 2 ^ vqBits h = rw (v, ← e) (number-take-lt n (drop (bitAt p) (bitsOf s))) in
-      let m : 2 ^ vqBits h ≤ 2 ^ 9 = pow-mono (vq-most h) in
-      (l, omega arith)
+  -- its vector is in the book
+  pub index-small : (i : ℕ) → i ≡ numberOf (take n (drop (bitAt p) (bitsOf s))) → i < 2 ^ vqBits h
+  index-small i v = rw (v, ← e) (number-take-lt n (drop (bitAt p) (bitsOf s)))
 
 -- six codes: what read_six leaves is what their item shows
 pub codes-put : (h g k n : ℕ) (bs : List Bool) (v v′ : List Float) (e e′ : List ℤ) (i : List ℕ) (r : ScalarResult) → k < length i

@@ -2,13 +2,15 @@
 ghost use mathlib.Core.Path.{_≡_};
 ghost use mathlib.Core.Bool.{false};
 ghost use mathlib.Core.List.{_∷_, [], _++_};
-ghost use Prim.Native.Nat.{_+_, _-_, _*_, _<_, _≤_};
+ghost use Prim.Native.Nat.{_+_, _-_, _*_, _^_, _<_, _≤_};
 ghost use lib.IntN.{pos};
 ghost use lib.ListN.{length, take, drop, replicate};
 ghost use Rattle.bits.specs.Bits.{bitsOf, bitAt, splice, Inside};
 ghost use Rattle.bits.specs.Format.{each};
 ghost use Rattle.levels.specs.Value.{f0};
 ghost use Rattle.levels.specs.Work.{ScalesLoaded};
+ghost use Rattle.tables.specs.Tables.{vqBits};
+ghost use Rattle.books.specs.Books.{vqLookup, vqExact};
 ghost use Rattle.books.specs.Work.{VectorsLoaded};
 ghost use Rattle.scalars.specs.Scalars.{scalarAnswer};
 ghost use Rattle.field.specs.Field.{partOf, groupWords, gainWords, book, scalar, item, binOf, binsOf, field};
@@ -138,7 +140,28 @@ fn read_gains(src: &[u8], pos: BitPos, mode: u8, n: usize, gains: &mut [u8]) -> 
     }
 }
 
-// The index of a book bin: its vector, as f32 and as exact values, and the index go to the bin's places.
+// The vector at an index, as f32 and as exact values, and the index go to the bin's places.
+fn put_index(
+    hebap: u8,
+    i: u32,
+    bin: usize,
+    loaded: &[i16],
+    values: &mut [f32],
+    exact: &mut [i32],
+    indices: &mut [u16],
+)
+    requires { ⌜ (1 ≤ hebap) × (hebap ≤ 7) × (i < 2 ^ vqBits hebap) ⌝ }
+    requires { ⌜ VectorsLoaded (now loaded) ⌝ }
+    requires { ⌜ (bin < 256) × (6 * bin + 6 ≤ length (now values)) × (6 * bin + 6 ≤ length (now exact)) × (bin < length (now indices)) ⌝ }
+    ensures { λ r. ⌜ now (values .exit) ≡ splice (now (values .entry)) (6 * bin) (vqLookup hebap i) ⌝ }
+    ensures { λ r. ⌜ now (exact .exit) ≡ splice (now (exact .entry)) (6 * bin) (vqExact hebap i) ⌝ }
+    ensures { λ r. ⌜ now (indices .exit) ≡ splice (now (indices .entry)) bin (i ∷ []) ⌝ }
+{
+    books::put_vector(loaded, hebap, i as usize, 6 * bin, values, exact);
+    indices[bin] = i as u16;
+}
+
+// The index of a book bin. With four bytes ahead no bit is counted.
 fn read_index(
     src: &[u8],
     pos: BitPos,
@@ -157,12 +180,17 @@ fn read_index(
     ensures { λ r. ⌜ WhenGot (item (book hebap) .dec (drop (bitAt pos) (bitsOf (now (src .entry))))) (λ x. (now (values .exit) ≡ splice (now (values .entry)) (6 * bin) (valuesOf (book hebap) x)) × (now (exact .exit) ≡ splice (now (exact .entry)) (6 * bin) (exactsOf (book hebap) x)) × (now (indices .exit) ≡ splice (now (indices .entry)) bin (indexOf (book hebap) x ∷ []))) ⌝ }
 {
     let n = tables::vq_bits(hebap) as u32;
-    if !pos.holds_few(src.len(), n) {
+    let byte = pos.byte;
+    if byte + 4 <= src.len() {
+        let i = pos.short_number(src, n);
+        put_index(hebap, i, bin, loaded, values, exact, indices);
+        return ScalarResult::Done(pos.past(n));
+    }
+    if !pos.holds(src.len(), 1, n as usize) {
         return ScalarResult::Refused(8);
     }
     let i = pos.number(src, n);
-    books::put_vector(loaded, hebap, i as usize, 6 * bin, values, exact);
-    indices[bin] = i as u16;
+    put_index(hebap, i, bin, loaded, values, exact, indices);
     ScalarResult::Done(pos.past(n))
 }
 

@@ -179,9 +179,9 @@ fn read_small_or_large(
     pos.past(d)
 }
 
-// Six codes near the end of the input: each is asked whether it is there. Where the bits run out, the values of the codes before that stand in
-// the outputs.
-fn read_near_end(
+// Six codes, wherever they stand: each is asked whether it is there. Where the bits run out, the values of the codes before that stand in the
+// outputs.
+fn read_each(
     s: CodeScale,
     src: &[u8],
     pos: BitPos,
@@ -244,7 +244,7 @@ pub fn read_six(
         }
         return ScalarResult::Done(read_small_or_large(s, src, pos, hebap, gk, at, values, exact));
     }
-    read_near_end(s, src, pos, hebap, gk, at, values, exact)
+    read_each(s, src, pos, hebap, gk, at, values, exact)
 }
 
 // Gk of a bin.
@@ -285,7 +285,7 @@ fn read_values(
     ensures { λ r. ⌜ now (out .exit) ≡ scalarsAfter (now (out .entry)) (valuesRead hebap gk (drop (bitAt pos) (bitsOf (now (src .entry))))) ⌝ }
 {
     let s = levels::scale_of(hebap, gk);
-    let r = read_six(s, src, pos, hebap, gk, 0, &mut *values, &mut *exact);
+    let r = read_each(s, src, pos, hebap, gk, 0, &mut *values, &mut *exact);
     match r {
         ScalarResult::Refused(k) => ScalarResult::Refused(k),
         ScalarResult::Done(next) => {

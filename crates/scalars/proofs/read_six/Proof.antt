@@ -8,7 +8,7 @@ use Rattle.scalars.proofs.read_six.Tie as tie
 use Rattle.scalars.proofs.read_six.Reads as reads
 use Rattle.scalars.proofs.read_six.Lts as lts
 use Rattle.scalars.proofs.read_fixed.Reads as read-fixed-reads
-use Rattle.scalars.proofs.read_near_end.Reads as read-near-end-reads
+use Rattle.scalars.proofs.read_each.Reads as read-each-reads
 use Rattle.scalars.proofs.read_small_or_large.Reads as read-small-or-large-reads
 
 add-if1 : tie.Need-add-if1
@@ -48,8 +48,8 @@ same-length-4 c = search needs
 returns-2 : tie.Need-returns-2
 returns-2 c = search needs
 
-read-near-end-requires : tie.Need-read-near-end-requires
-read-near-end-requires c κs = search needs
+read-each-requires : tie.Need-read-each-requires
+read-each-requires c κs = search needs
 
 same-length-5 : tie.Need-same-length-5
 same-length-5 c = search needs
@@ -73,7 +73,7 @@ read-six-spec =
     same-length-3
     same-length-4
     returns-2
-    read-near-end-requires
+    read-each-requires
     same-length-5
     same-length-6
     returns-3)

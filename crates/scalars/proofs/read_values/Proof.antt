@@ -15,8 +15,8 @@ use Rattle.scalars.proofs.read_values.Tie as tie
 scale-of-requires : tie.Need-scale-of-requires
 scale-of-requires c κs = search needs
 
-read-six-requires : tie.Need-read-six-requires
-read-six-requires c κs =
+read-each-requires : tie.Need-read-each-requires
+read-each-requires c κs =
     let k = c .before .before in
     let s = k .before .before .before .before in
     let l = s .pre .1 .1 in
@@ -42,7 +42,7 @@ returns c =
     let r = c .before .before .before .before .before .before in
     let a = r .before .before .before .before .before .before .before .args in
     let bs = drop (bitAt (a .pos)) (bitsOf (now (a .src))) in
-    values-none (a .hebap) (a .gk) (8 * length (now (a .src))) bs (now (a .out)) _ (six (mantBits (a .hebap)) (a .gk) .dec bs) (sym (c .before .r .given .1) ∙ r .read-six .ensures .0)
+    values-none (a .hebap) (a .gk) (8 * length (now (a .src))) bs (now (a .out)) _ (six (mantBits (a .hebap)) (a .gk) .dec bs) (sym (c .before .r .given .1) ∙ r .read-each .ensures .0)
 
 same-length-3 : tie.Need-same-length-3
 same-length-3 c = search needs
@@ -61,7 +61,7 @@ returns-2 c =
     let a = s .args in
     let bs = drop (bitAt (a .pos)) (bitsOf (now (a .src))) in
     let e =
-    values-all (a .hebap) (a .gk) (8 * length (now (a .src))) bs (now (a .out)) _ (now (a .values)) _ (six (mantBits (a .hebap)) (a .gk) .dec bs) refl (sym (k .before .r2 .given .1) ∙ r .read-six .ensures .0) (r .read-six .ensures .1 .0) (s .pre .1 .1 .1) in
+    values-all (a .hebap) (a .gk) (8 * length (now (a .src))) bs (now (a .out)) _ (now (a .values)) _ (six (mantBits (a .hebap)) (a .gk) .dec bs) refl (sym (k .before .r2 .given .1) ∙ r .read-each .ensures .0) (r .read-each .ensures .1 .0) (s .pre .1 .1 .1) in
     (e .0, c .before .before .copy .ensures ∙ e .1)
 
 pub read-values-spec : {M : Type 1} → statement M
@@ -69,7 +69,7 @@ read-values-spec =
     tie.close
     (tie.spec
     scale-of-requires
-    read-six-requires
+    read-each-requires
     enum-known-r
     enum-known-r-2
     copy-requires

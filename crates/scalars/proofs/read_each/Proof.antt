@@ -1,4 +1,4 @@
--- `scalars::read_near_end` meets its contract: before each turn the codes read so far are known (Six.SoFar). Assumes nothing.
+-- `scalars::read_each` meets its contract: before each turn the codes read so far are known (Six.SoFar). Assumes nothing.
 use Prim.Native.Nat.{_-_, _*_, _≤_}
 use mathlib.Core.Path.{_≡_, refl, sym, ap, _∙_}
 use denote.Ref.{now}
@@ -11,8 +11,8 @@ use Rattle.scalars.specs.Scalars.{codeIn}
 use Rattle.scalars.proofs.Six.{SoFar, none-yet, in-lists, one-more, cut, cut-there, put, done, done-there, code-accepted}
 use native.Mathlib.Omega.{arith}
 use borrow.Author.Needs.{needs}
-use Rattle.scalars.proofs.read_near_end.Statement.{statement}
-use Rattle.scalars.proofs.read_near_end.Tie as tie
+use Rattle.scalars.proofs.read_each.Statement.{statement}
+use Rattle.scalars.proofs.read_each.Tie as tie
 
 abbrev Inv-loop : tie.InvT-loop
 Inv-loop s src hebap gk at values₀ exact₀ p₀ j₀ values exact p j =
@@ -109,8 +109,8 @@ returns-2 c =
     let w = put (a .hebap) (a .gk) (a .at) (now (a .src)) (bitAt (a .pos)) (now (a .values)) (now (a .exact)) (l .loop .p) (l .loop .j) (l .loop .values) (l .loop .exact) f q in
     (done (a .hebap) (a .gk) (a .at) (now (a .src)) (bitAt (a .pos)) (now (a .values)) (now (a .exact)) (l .loop .p) (l .loop .j) (l .loop .values) (l .loop .exact) f (omega arith), (w .0, w .1))
 
-pub read-near-end-spec : {M : Type 1} → statement M
-read-near-end-spec =
+pub read-each-spec : {M : Type 1} → statement M
+read-each-spec =
     tie.close
     (tie.spec
     Inv-loop
