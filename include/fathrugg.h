@@ -24,7 +24,7 @@
  * call writes to overlaps nothing else that is lent to it. Floats are rounded to nearest, and subnormal numbers are not
  * flushed to zero, as is the default.
  *
- * The library keeps no state and takes no memory but the stack, some 26 KB a call at most (docs/PERFORMANCE.md): calls may run at
+ * The library keeps no state and takes no memory but the stack, some 28 KB a call at most (docs/PERFORMANCE.md): calls may run at
  * the same time.
  */
 #ifndef FATHRUGG_H

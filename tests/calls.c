@@ -4,6 +4,7 @@
  * and the line on standard error.
  */
 #include <stdio.h>
+#include <stdlib.h>
 #include <string.h>
 
 #include "fathrugg.h"
@@ -169,6 +170,25 @@ static void channel(void)
     EXPECT(mode == 1 && count == 1 && gk[0] == 2 && payload == 13 && length == 15);
 }
 
+/* The components of bins of hebap 0 are never looked at: here they are never set, which valgrind tells if they are. Six codes of 3 bits at
+   0.25 take 18 bits at Gk 1; at Gk 2 each is small and takes 2, with the gain's bit 13; at Gk 4 each takes the tag. */
+static void unset(void)
+{
+    enum { BINS = 16 };
+    const uint8_t hebap[BINS] = {8};
+    float *x = malloc(6 * BINS * sizeof *x);
+    if (x == NULL) exit(2);
+    for (int k = 0; k < 6; k++) x[k] = 0.25f;
+    uint8_t mode = 9, gk[256], field[2] = {0};
+    size_t count = 9, byte = 0;
+    uint32_t payload = 9, bit = 0;
+    EXPECT(fathrugg_plan_aht_channel(hebap, BINS, 0, BINS, x, 6 * BINS, &mode, gk, &count, &payload) == FATHRUGG_OK);
+    EXPECT(mode == 1 && count == 1 && gk[0] == 2 && payload == 13);
+    EXPECT(fathrugg_write_aht_channel(mode, gk, count, payload, hebap, BINS, 0, BINS, x, 6 * BINS, field, 2, &byte, &bit) == FATHRUGG_OK);
+    EXPECT(byte == 1 && bit == 7);
+    free(x);
+}
+
 int main(void)
 {
     bits();
@@ -177,5 +197,6 @@ int main(void)
     books();
     quantiser();
     channel();
+    unset();
     return wrong;
 }

@@ -1,5 +1,5 @@
 #!/usr/bin/env python3
-"""The tables of crates/tables, made from the Rust's text, or compared with it.
+"""The tables of crates/tables, fractions and levels, made from the Rust's text, or compared with it.
 
   tables.py FOLDER            writes the Rattle constants and the definitions' lists
   tables.py FOLDER --check    compares them number by number; exit status 1 where one differs
@@ -88,7 +88,7 @@ def scales_text(tables):
     lines = ['// What the codes of a hebap and a gain have in common: a row for each of hebap 8 to 19 at Gk 1, 2 and 4. Made by tools/tables.py.', '',
              '// a and b (for x >= 0 and for x < 0) as fractions, 1 / 2^(m-1) and 1 / 2^(bits of a large code - 1), all by bit patterns; the bits of small and',
              '// of large codes; a step of each and both b, the second by its size, in units of 2^-30.', 'pub const SCALES: [u32; 396] = [']
-    return '\n'.join(lines + ['    %d,' % x for row in scales(tables) for x in row] + ['];']) + '\n'
+    return '\n'.join(lines + ['    0x%08x,' % x if i < 5 else '    %d,' % x for row in scales(tables) for i, x in enumerate(row)] + ['];']) + '\n'
 
 
 def fractions_text(tables):
@@ -129,6 +129,12 @@ def ours():
     return from_code, from_spec, by_component
 
 
+def scales_read():
+    """The numbers of SCALES in the repository."""
+    body = re.search(r'pub const SCALES: \[u32; \d+\] = \[(.*?)\];', open(SCALES, encoding='utf-8').read(), re.S).group(1)
+    return [int(x, 0) for x in re.findall(r'0x\w+|\d+', body)]
+
+
 def main():
     tables = rust(sys.argv[1])
     assert [len(t[2]) for t in tables] == [64, 20, 8, 84, 24, 48, 96, 192, 768, 1536, 3072], 'the Rust text was not read whole'
@@ -152,6 +158,11 @@ def main():
             numbers += len(want)
             wrong += bad
             if bad: print('tables: %s as fractions: %d numbers differ' % (name, bad))
+    want, got = [x for row in scales(tables) for x in row], scales_read()
+    bad = abs(len(want) - len(got)) + sum(a != b for a, b in zip(want, got))
+    numbers += len(want)
+    wrong += bad
+    if bad: print('tables: scales: %d numbers differ' % bad)
     print('tables: %d numbers compared with the Rust, %d different' % (numbers, wrong))
     sys.exit(1 if wrong else 0)
 

@@ -1,16 +1,14 @@
 -- What the planner answers, case by case. Assumes nothing.
 use mathlib.Core.Path.{_≡_, refl, sym, ap, subst, _∙_}
-use mathlib.Core.Bool.{Bool, true, false, not, _&&_, _||_, cond}
+use mathlib.Core.Bool.{Bool, true, false, _||_, cond}
 use mathlib.Core.List.{List, [], _∷_, _++_}
-use Prim.Native.Nat.{ℕ, zero, suc, _+_, _-_, _*_, _≤_, _<_}
+use Prim.Native.Nat.{ℕ, zero, suc, _+_, _*_, _≤_, _<_}
 use native.Mathlib.Omega.{arith}
 use borrow.Author.Tests.{lt-ltb, le-ltb, ltb-false, ne-eqb}
 use lib.Dec.{T, eqb, ltb}
-use lib.ListN.{length, getD, take, drop, length-append}
-use lib.Seq.{take-add, drop-drop}
+use lib.ListN.{length, take, drop, length-append}
 use lib.Ieee.{Float}
 use Rattle.gains.specs.Gains.{member}
-use Rattle.levels.specs.Component.{tooLarge, someTooLarge}
 use Rattle.planner.specs.Bins.{someOver}
 use Rattle.planner.specs.Choice.{planMode, planGains, planPayload, planBits, choiceBits, Choice, gainsOver}
 use Rattle.planner.specs.Work.{tallyOf, payloadIn, modeIn, countIn, gainsKept, keptIn, Within}
@@ -19,7 +17,6 @@ use Rattle.planner.specs.Fit.{planFits}
 use Rattle.planner.specs.declared.Plan.{Plan}
 use Rattle.planner.specs.declared.Planned.{Planned}
 use Rattle.planner.specs.declared.Tally.{Tally}
-use Rattle.planner.proofs.Over.{none-over}
 use Rattle.planner.proofs.Sweep.{mode-is, plan-payload}
 use Rattle.planner.proofs.Kept.{count-is, kept-is}
 use Rattle.planner.proofs.Optimal.{cheapest-in, plan-least, plan-lowest}
@@ -80,38 +77,6 @@ module _ (row : List ℕ) (start end : ℕ) (x : List Float) where
 pub or-none : (a b : Bool) → a || b ≡ false → (a ≡ false) × (b ≡ false)
 or-none true b h = absurd (subst T h tt)
 or-none false b h = (refl, h)
-
--- ---- no component is too large, of a run and so of each bin in it
-none-parts : (a b : List Float) → someTooLarge (a ++ b) ≡ false → (someTooLarge a ≡ false) × (someTooLarge b ≡ false)
-none-parts [] b h = (refl, h)
-none-parts (y ∷ a) b h =
-    let o = or-none (tooLarge y) (someTooLarge (a ++ b)) h in
-    let p = none-parts a b (o .1) in
-    (ap (λ (t : Bool). t || someTooLarge a) (o .0) ∙ p .0, p .1)
-
-none-part : (x : List Float) (a n i m : ℕ) → i + m ≤ n → someTooLarge (take n (drop a x)) ≡ false → someTooLarge (take m (drop (a + i) x)) ≡ false
-none-part x a n i m h e =
-    let l = drop a x in
-    let r = n - (i + m) in
-    let q : n ≡ i + (m + r) = omega arith in
-    let s : take n l ≡ take i l ++ (take m (drop i l) ++ take r (drop m (drop i l))) =
-    ap (λ (k : ℕ). take k l) q ∙ take-add i (m + r) l ∙ ap (λ (z : List Float). take i l ++ z) (take-add m r (drop i l)) in
-    let p = none-parts (take i l) (take m (drop i l) ++ take r (drop m (drop i l))) (sym (ap someTooLarge s) ∙ e) .1 in
-    ap (λ (z : List Float). someTooLarge (take m z)) (sym (drop-drop i a x)) ∙ none-parts (take m (drop i l)) (take r (drop m (drop i l))) p .0
-
-pub none-large : (row : List ℕ) (x : List Float) (start end : ℕ) → start ≤ end → someTooLarge (take (6 * end - 6 * start) (drop (6 * start) x)) ≡ false → false ≡ someOver (tooLargeAt row x) start end
-unfolding tooLargeAt
-none-large row x start end h e =
-    sym (none-over (tooLargeAt row x) start end (λ k l u. and-none (not (eqb (getD row k 0) 0)) (someTooLarge (take 6 (drop (6 * k) x))) (here k l u)))
-  where
-    and-none : (a b : Bool) → b ≡ false → a && b ≡ false
-    and-none true b q = q
-    and-none false b q = refl
-
-    here : (k : ℕ) → start ≤ k → k < end → someTooLarge (take 6 (drop (6 * k) x)) ≡ false
-    here k l u =
-        let q : 6 * start + (6 * k - 6 * start) ≡ 6 * k = omega arith in
-        ap (λ (z : ℕ). someTooLarge (take 6 (drop z x))) (sym q) ∙ none-part x (6 * start) (6 * end - 6 * start) (6 * k - 6 * start) 6 (omega arith) e
 
 pub none-of : (t : Bool) (n b : ℕ) → cond t (suc n) b ≡ 0 → (t ≡ false) × (b ≡ 0)
 none-of true n b h = absurd (let z : suc n ≡ 0 = h in omega arith)

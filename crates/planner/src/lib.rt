@@ -384,7 +384,7 @@ fn too_large_at(row: &[u8], x: &[f32], bin: usize) -> bool
     levels::any_too_large(&x[a..b])
 }
 
-fn some_bin_too_large(row: &[u8], start: usize, end: usize, x: &[f32]) -> bool
+fn any_too_large(row: &[u8], start: usize, end: usize, x: &[f32]) -> bool
     requires { ⌜ Within (now row) start end (now x) ⌝ }
     ensures { λ r. ⌜ r ≡ someOver (tooLargeAt (now (row .entry)) (now (x .entry))) start end ⌝ }
 {
@@ -394,19 +394,6 @@ fn some_bin_too_large(row: &[u8], start: usize, end: usize, x: &[f32]) -> bool
             return true;
         }
         bin += 1;
-    }
-    false
-}
-
-// The components of all bins are looked at first, also those of bins with hebap 0: where none is too large, no bin is.
-fn any_too_large(row: &[u8], start: usize, end: usize, x: &[f32]) -> bool
-    requires { ⌜ Within (now row) start end (now x) ⌝ }
-    ensures { λ r. ⌜ r ≡ someOver (tooLargeAt (now (row .entry)) (now (x .entry))) start end ⌝ }
-{
-    let a = 6 * start;
-    let b = 6 * end;
-    if levels::any_too_large(&x[a..b]) {
-        return some_bin_too_large(row, start, end, x);
     }
     false
 }

@@ -9,7 +9,7 @@ use lib.Dec.{eqb}
 use lib.IntN.{ℤ}
 use lib.Ieee.{Float}
 use lib.ListN.{length, take, drop, set}
-use Rattle.bits.specs.Bits.{bitsOf, numberOf, bitAt, posOf}
+use Rattle.bits.specs.Bits.{bitsOf, numberOf, posOf}
 use Rattle.bits.specs.Format.{number, got}
 use Rattle.bits.proofs.Reading.{at-pos, number-there}
 use Rattle.tables.specs.Tables.{mantBits}

@@ -11,7 +11,6 @@ ghost use Rattle.levels.specs.Work.{scaleOf};
 ghost use Rattle.scalars.specs.declared.ScalarResult.{ScalarResult};
 ghost use Rattle.scalars.specs.Scalars.{codeIn, CodeNext, scalarAnswer, sixValues, sixExacts, gainOf, valuesRead, binRead, scalarsRead, scalarsAfter};
 use bits::BitPos;
-use bits::BitRead;
 use levels::Code;
 use levels::CodeScale;
 
@@ -73,7 +72,7 @@ pub fn read_code(src: &[u8], pos: BitPos, hebap: u8, gk: u8) -> CodeResult
 }
 
 // The f32 and the exact value of a code go to the place `at`.
-fn put_code(
+fn put_values(
     s: CodeScale,
     hebap: u8,
     gk: u8,
@@ -153,7 +152,7 @@ fn read_small_or_large(
             let q = pos.past(d);
             let l = q.short_number(src, s.large);
             d += s.large;
-            put_code(
+            put_values(
                 s,
                 hebap,
                 gk,
@@ -164,7 +163,7 @@ fn read_small_or_large(
             );
             j += 1;
         } else {
-            put_code(
+            put_values(
                 s,
                 hebap,
                 gk,
@@ -208,7 +207,7 @@ fn read_each(
                 return ScalarResult::Refused(k);
             }
             CodeResult::Read(code, next) => {
-                put_code(s, hebap, gk, code, at + j, &mut *values, &mut *exact);
+                put_values(s, hebap, gk, code, at + j, &mut *values, &mut *exact);
                 p = next;
                 j += 1;
             }
@@ -217,8 +216,8 @@ fn read_each(
     ScalarResult::Done(p)
 }
 
-// The six codes of a bin: their f32 and exact values go to the places from `at` on. Six codes take 180 bits at most, so with 28 bytes ahead no code
-// is asked whether it is there.
+// The six codes of a bin: their f32 and exact values go to the places from `at` on. From a bit of the first byte on six codes reach 24 bytes far at
+// most (7 + 180 bits), and four bytes are taken at once: with 28 ahead no code is asked whether it is there.
 pub fn read_six(
     s: CodeScale,
     src: &[u8],

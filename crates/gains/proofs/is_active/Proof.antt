@@ -1,5 +1,4 @@
 -- `gains::is_active` meets its contract. Assumes nothing.
-use mathlib.Core.Path.{_∙_}
 use native.Mathlib.Omega.{arith}
 use borrow.Author.Needs.{needs}
 use Rattle.gains.proofs.Cases.{active-low, active-by-end}

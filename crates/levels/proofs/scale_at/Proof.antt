@@ -1,6 +1,6 @@
 -- `levels::scale_at` meets its contract. Assumes nothing.
 use Prim.Native.Nat.{_+_, _≤_}
-use mathlib.Core.Path.{_≡_, sym, ap, _∙_}
+use mathlib.Core.Path.{_≡_, _∙_}
 use denote.Ref.{now}
 use lib.IntN.{pos}
 use lib.ListN.{length, getD}

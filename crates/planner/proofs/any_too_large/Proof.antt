@@ -1,51 +1,52 @@
 -- `planner::any_too_large` meets its contract. Assumes nothing.
-use mathlib.Core.Path.{sym, _∙_}
-use Rattle.planner.proofs.Answer.{none-large}
+use Prim.Native.Nat.{_≤_, _-_}
+use mathlib.Core.Path.{_≡_, sym, _∙_}
+use mathlib.Core.Bool.{false}
+use Rattle.planner.specs.Bins.{someOver}
+use Rattle.planner.specs.Planning.{tooLargeAt}
+use Rattle.planner.proofs.Over.{some-none, some-turn, some-found, some-end}
+use native.Mathlib.Omega.{arith}
 use borrow.Author.Needs.{needs}
 use Rattle.planner.proofs.any_too_large.Statement.{statement}
 use Rattle.planner.proofs.any_too_large.Tie as tie
 
-mul-a : tie.Need-mul-a
-mul-a c = search needs
+abbrev Inv-loop : tie.InvT-loop
+Inv-loop row start end x bin₀ bin = (start ≤ bin) × (bin ≤ end) × (someOver (tooLargeAt row x) start bin ≡ false)
 
-mul-b : tie.Need-mul-b
-mul-b c = search needs
+abbrev μ-loop : tie.MeasureT-loop
+μ-loop row start end x bin₀ bin = end - bin
 
-mul-any-too-large : tie.Need-mul-any-too-large
-mul-any-too-large c = search needs
+loop-holds : tie.Need-loop-holds Inv-loop μ-loop
+loop-holds c = let s = c .before .before in (search needs, s .pre .bins, some-none (tooLargeAt (s .args .row .now) (s .args .x .now)) (s .args .start) (s .args .start) (search needs))
 
-sub-any-too-large : tie.Need-sub-any-too-large
-sub-any-too-large c = search needs
+too-large-at-requires : tie.Need-too-large-at-requires Inv-loop μ-loop
+too-large-at-requires c κs = let l = c .before in let s = l .before .before .before in let p = s .pre in (omega arith, omega arith, omega arith)
 
-part-any-too-large-start : tie.Need-part-any-too-large-start
-part-any-too-large-start c = search needs
+returns : tie.Need-returns Inv-loop μ-loop
+returns c = let l = c .before .before .before in let s = l .before .before .before .args in some-found (tooLargeAt (s .row .now) (s .x .now)) (s .start) (l .loop .bin) (s .end) (l .loop .inv .0) (c .before .before .loop-test .taken) (sym (c .before .too-large-at .ensures) ∙ c .if1 .taken)
 
-part-any-too-large-end : tie.Need-part-any-too-large-end
-part-any-too-large-end c = search needs
+add-bin : tie.Need-add-bin Inv-loop μ-loop
+add-bin c = search needs
 
-any-too-large-requires : tie.Need-any-too-large-requires
-any-too-large-requires c κs = search needs
+loop-less : tie.Need-loop-less Inv-loop μ-loop
+loop-less c = search needs
 
-some-bin-too-large-requires : tie.Need-some-bin-too-large-requires
-some-bin-too-large-requires c κs = search needs
+loop-again : tie.Need-loop-again Inv-loop μ-loop
+loop-again c = let l = c .before .before .before in let s = l .before .before .before .args in (omega arith, omega arith, some-turn (tooLargeAt (s .row .now) (s .x .now)) (s .start) (l .loop .bin) (l .loop .inv .0) (l .loop .inv .2) (sym (c .before .too-large-at .ensures) ∙ c .if1 .left))
 
-returns : tie.Need-returns
-returns c = search needs
-
-returns-2 : tie.Need-returns-2
-returns-2 c = let p = c .before in let s = p .before .before .before .before in none-large (s .args .row .now) (s .args .x .now) (s .args .start) (s .args .end) (s .pre .bins) (sym (p .any-too-large .ensures) ∙ c .if1 .left)
+returns-2 : tie.Need-returns-2 Inv-loop μ-loop
+returns-2 c = let l = c .before in let s = l .before .before .before .args in some-end (tooLargeAt (s .row .now) (s .x .now)) (s .start) (l .loop .bin) (s .end) (l .loop .inv .1) (c .loop-test .left) (l .loop .inv .2)
 
 pub any-too-large-spec : {M : Type 1} → statement M
 any-too-large-spec =
     tie.close
     (tie.spec
-    mul-a
-    mul-b
-    mul-any-too-large
-    sub-any-too-large
-    part-any-too-large-start
-    part-any-too-large-end
-    any-too-large-requires
-    some-bin-too-large-requires
+    Inv-loop
+    μ-loop
+    loop-holds
+    too-large-at-requires
     returns
+    add-bin
+    loop-less
+    loop-again
     returns-2)

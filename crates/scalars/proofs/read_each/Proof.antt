@@ -1,8 +1,8 @@
 -- `scalars::read_each` meets its contract: before each turn the codes read so far are known (Six.SoFar). Assumes nothing.
-use Prim.Native.Nat.{_-_, _*_, _≤_}
+use Prim.Native.Nat.{_-_, _*_}
 use mathlib.Core.Path.{_≡_, refl, sym, ap, _∙_}
 use denote.Ref.{now}
-use lib.ListN.{length, drop, length-set}
+use lib.ListN.{length, drop}
 use Rattle.bits.specs.Bits.{bitsOf, bitAt, Inside}
 use Rattle.bits.specs.Format.{got}
 use Rattle.tables.specs.Tables.{mantBits}
@@ -63,11 +63,11 @@ next-in c =
     let r = c .before .before .before in
     rw (c .before .r2 .given .1) at (r .read-code .ensures .1)
 
-add-put-code : tie.Need-add-put-code Inv-loop μ-loop
-add-put-code c = let d = c .before .before .before .before .before .before .before .before in search needs
+add-put-values : tie.Need-add-put-values Inv-loop μ-loop
+add-put-values c = let d = c .before .before .before .before .before .before .before .before in search needs
 
-put-code-requires : tie.Need-put-code-requires Inv-loop μ-loop
-put-code-requires c κs =
+put-values-requires : tie.Need-put-values-requires Inv-loop μ-loop
+put-values-requires c κs =
     let k = c .before .before in
     let s = k .before .before .before .before .before .before .before .before in
     let l = k .before .before .before .before .before in
@@ -87,7 +87,7 @@ loop-again c =
     let s = l .before .before .before in
     let a = s .args in
     let w = s .pre .1 .1 .1 in (
-      in-lists (a .hebap) (a .gk) (a .at) (now (a .src)) (bitAt (a .pos)) (now (a .values)) (now (a .exact)) _ _ _ _ _ _ (b .put-code .ensures .0) (b .put-code .ensures .1)
+      in-lists (a .hebap) (a .gk) (a .at) (now (a .src)) (bitAt (a .pos)) (now (a .values)) (now (a .exact)) _ _ _ _ _ _ (b .put-values .ensures .0) (b .put-values .ensures .1)
           (one-more (a .hebap) (a .gk) (a .at) (now (a .src)) (bitAt (a .pos)) (now (a .values)) (now (a .exact)) (l .loop .p) (l .loop .j) (l .loop .values) (l .loop .exact) (l .loop .inv .0) (omega arith)
           (k .before .r2 .given .0 .0) (k .before .r2 .given .0 .1 .0) _ _ (w .0) (w .1) (next-in k) (code-is k) refl refl),
       c .before .before .values .given ∙ l .loop .inv .1,
@@ -122,8 +122,8 @@ read-each-spec =
     same-length-2
     returns
     enum-known-r-2
-    add-put-code
-    put-code-requires
+    add-put-values
+    put-values-requires
     add-j
     loop-less
     loop-again

@@ -1,6 +1,6 @@
 -- `scalars::read_fixed` meets its contract: before each turn the codes read so far are known (Six.SoFar). Assumes nothing.
-use Prim.Native.Nat.{ℕ, _+_, _-_, _*_, _≤_, _<_}
-use mathlib.Core.Path.{_≡_, refl, sym, ap, _∙_}
+use Prim.Native.Nat.{_+_, _-_, _*_, _≤_}
+use mathlib.Core.Path.{_≡_, refl, ap, _∙_}
 use denote.Ref.{now}
 use lib.ListN.{length, drop, length-set}
 use mir.Syntax.{w32}

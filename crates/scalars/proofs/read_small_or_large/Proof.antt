@@ -1,5 +1,5 @@
 -- `scalars::read_small_or_large` meets its contract: before each turn the codes read so far are known (Six.SoFar). Assumes nothing.
-use Prim.Native.Nat.{ℕ, _+_, _-_, _*_, _≤_, _<_}
+use Prim.Native.Nat.{_+_, _-_, _*_, _≤_}
 use mathlib.Core.Path.{_≡_, refl, sym, ap, _∙_}
 use mathlib.Core.Bool.{false}
 use denote.Ref.{now}
@@ -146,11 +146,11 @@ large-is-read c =
     c .short-number2 .ensures ∙ rw (large-bits s, c .before .past2 .ensures, at-pos (bitAt (a .pos) + (l .before .loop .d + a .s .small)), p) in
     rw u (large-read h (a .gk) (now (a .src)) k (not-one s) (omega arith) (omega arith) (room l) (sym (first-is f) ∙ i .if1 .taken ∙ tag-is t))
 
-add-put-code : tie.Need-add-put-code Inv-loop μ-loop
-add-put-code c = at-fits (c .before .before .before .before .before .before .before .before .before)
+add-put-values : tie.Need-add-put-values Inv-loop μ-loop
+add-put-values c = at-fits (c .before .before .before .before .before .before .before .before .before)
 
-put-code-requires : tie.Need-put-code-requires Inv-loop μ-loop
-put-code-requires c κs =
+put-values-requires : tie.Need-put-values-requires Inv-loop μ-loop
+put-values-requires c κs =
     let k = c .before .before .before in
     let t = k .before .before .before .before .before .before .before .before in
     let l = t .before in
@@ -179,7 +179,7 @@ loop-again c =
     let e′ = large-bits s in
     let q : l .loop .d + a .s .small + a .s .large ≡ l .loop .d + n = omega arith in (
       rw q
-          (in-lists (a .hebap) (a .gk) (a .at) (now (a .src)) (bitAt (a .pos)) (now (a .values)) (now (a .exact)) _ _ _ _ _ _ (p .put-code .ensures .0) (p .put-code .ensures .1)
+          (in-lists (a .hebap) (a .gk) (a .at) (now (a .src)) (bitAt (a .pos)) (now (a .values)) (now (a .exact)) _ _ _ _ _ _ (p .put-values .ensures .0) (p .put-values .ensures .1)
           (turn (a .hebap) (a .gk) (a .at) (now (a .src)) (bitAt (a .pos)) (now (a .values)) (now (a .exact)) (w .0) (w .1) (l .loop .d) n (l .loop .j) (l .loop .values) (l .loop .exact)
           (l .loop .inv .0) (omega arith) (Code.Large (k .short-number2 .result)) (large-is-read k) (room t) _ _ refl refl)),
       omega (arith, l .loop .inv .1),
@@ -189,8 +189,8 @@ loop-again c =
 
 -- ---- a small code
 
-add-put-code-2 : tie.Need-add-put-code-2 Inv-loop μ-loop
-add-put-code-2 c = at-fits (c .before .before .before .before .before .before)
+add-put-values-2 : tie.Need-add-put-values-2 Inv-loop μ-loop
+add-put-values-2 c = at-fits (c .before .before .before .before .before .before)
 
 small-is-read : (c : tie.Else1 Inv-loop μ-loop) → let f = c .before .before .before .before in let l = f .before .before in let s = l .before .before .before .before in
     let h = s .args .hebap in let g = s .args .gk in let k = bitAt (s .args .pos) + l .before .loop .d in
@@ -209,8 +209,8 @@ small-is-read c =
     rw (first-is f)
     (small-read h (a .gk) (now (a .src)) (bitAt (a .pos) + l .before .loop .d) (not-one s) (omega arith) (omega arith) (λ e. c .if1 .left (first-is f ∙ e ∙ sym (tag-is t))))
 
-put-code-requires-2 : tie.Need-put-code-requires-2 Inv-loop μ-loop
-put-code-requires-2 c κs =
+put-values-requires-2 : tie.Need-put-values-requires-2 Inv-loop μ-loop
+put-values-requires-2 c κs =
     let k = c .before .before in
     let t = k .before .before .before .before .before .before in
     let l = t .before in
@@ -239,7 +239,7 @@ loop-again-2 c =
     let e = small-bits s in
     let q : l .loop .d + a .s .small ≡ l .loop .d + n = omega arith in (
       rw q
-          (in-lists (a .hebap) (a .gk) (a .at) (now (a .src)) (bitAt (a .pos)) (now (a .values)) (now (a .exact)) _ _ _ _ _ _ (p .put-code2 .ensures .0) (p .put-code2 .ensures .1)
+          (in-lists (a .hebap) (a .gk) (a .at) (now (a .src)) (bitAt (a .pos)) (now (a .values)) (now (a .exact)) _ _ _ _ _ _ (p .put-values2 .ensures .0) (p .put-values2 .ensures .1)
           (turn (a .hebap) (a .gk) (a .at) (now (a .src)) (bitAt (a .pos)) (now (a .values)) (now (a .exact)) (w .0) (w .1) (l .loop .d) n (l .loop .j) (l .loop .values) (l .loop .exact)
           (l .loop .inv .0) (omega arith) (Code.Small _) (small-is-read k) (omega arith) _ _ refl refl)),
       omega (arith, l .loop .inv .1),
@@ -283,13 +283,13 @@ read-small-or-large-spec =
     past-requires-2
     short-number-requires-2
     add-d-2
-    add-put-code
-    put-code-requires
+    add-put-values
+    put-values-requires
     add-j
     loop-less
     loop-again
-    add-put-code-2
-    put-code-requires-2
+    add-put-values-2
+    put-values-requires-2
     add-j-2
     loop-less-2
     loop-again-2

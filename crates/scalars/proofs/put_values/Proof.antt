@@ -1,4 +1,4 @@
--- `scalars::put_code` meets its contract. Assumes nothing.
+-- `scalars::put_values` meets its contract. Assumes nothing.
 use mathlib.Core.Path.{ap, _∙_}
 use denote.Ref.{now}
 use lib.ListN.{set}
@@ -7,10 +7,10 @@ use mir.ValLaws.{toZ-ofZ}
 use Rattle.levels.specs.Value.{valueIn}
 use native.Mathlib.Omega.{arith}
 use borrow.Author.Needs.{needs}
-use Rattle.scalars.proofs.put_code.Statement.{statement}
-use Rattle.scalars.proofs.put_code.Tie as tie
-use Rattle.scalars.proofs.put_code.Reads as reads
-use Rattle.scalars.proofs.put_code.Lts as lts
+use Rattle.scalars.proofs.put_values.Statement.{statement}
+use Rattle.scalars.proofs.put_values.Tie as tie
+use Rattle.scalars.proofs.put_values.Reads as reads
+use Rattle.scalars.proofs.put_values.Lts as lts
 use Rattle.levels.proofs.exact_value.Reads as exact-value-reads
 use Rattle.levels.proofs.level_of.Reads as level-of-reads
 use Rattle.levels.proofs.value_of.Reads as value-of-reads
@@ -49,8 +49,8 @@ returns c =
     let z = toZ-ofZ w32 (c .exact-value .result) (record { sfits = c .exact-value .ok }) ∙ c .exact-value .ensures in
     (ap (set (now (a .values)) (a .at)) y, ap (set (now (a .exact)) (a .at)) z)
 
-pub put-code-spec : {M : Type 1} → statement M
-put-code-spec =
+pub put-values-spec : {M : Type 1} → statement M
+put-values-spec =
     tie.close
     (tie.spec
     level-of-requires
