@@ -115,14 +115,22 @@ module _ (h g at : ℕ) (s : List ℕ) (start : ℕ) (v : List Float) (x : List 
 
   -- all six are there
   module _ (p : BitPos) (j : ℕ) (v′ : List Float) (x′ : List ℤ) (f : SoFar p j v′ x′) (l : 6 ≤ j) where
-    pub done : ScalarResult.Done p ≡ scalarAnswer (8 * length s) (six (mantBits h) g .dec (drop start (bitsOf s)))
+    done : ScalarResult.Done p ≡ scalarAnswer (8 * length s) (six (mantBits h) g .dec (drop start (bitsOf s)))
     done =
         let n : replicate {A = ℕ} (6 - j) 0 ≡ [] = let z : 6 - j ≡ 0 = omega arith in ap (λ (n : ℕ). replicate {A = ℕ} n 0) z in
         let d : six (mantBits h) g .dec (drop start (bitsOf s)) ≡ got (f .cs) (drop (bitAt p) (bitsOf s)) = f .rest ∙ rw n (resume-done one (drop (bitAt p) (bitsOf s)) (f .cs)) in
         ap ScalarResult.Done (sym (pos-is s p (f .inside))) ∙ ap (scalarAnswer (8 * length s)) (sym d)
 
-    pub done-there : codesThere (coded (mantBits h) g) 6 (drop start (bitsOf s)) ≡ f .cs
+    done-there : codesThere (coded (mantBits h) g) 6 (drop start (bitsOf s)) ≡ f .cs
     done-there = let z : 6 - j ≡ 0 = omega arith in f .there ∙ rw (z, there-none (coded (mantBits h) g) (drop (bitAt p) (bitsOf s)), append-nil)
+
+  -- so what a loop answers with, and what it leaves, is what the definition names
+  pub all-read : (p : BitPos) (j : ℕ) (v′ : List Float) (x′ : List ℤ) → SoFar p j v′ x′ → 6 ≤ j → (q : BitPos) → q ≡ p
+      → (ScalarResult.Done q ≡ scalarAnswer (8 * length s) (six (mantBits h) g .dec (drop start (bitsOf s))))
+      × ((v′ ≡ sixValues h g at (drop start (bitsOf s)) v) × (x′ ≡ sixExacts h g at (drop start (bitsOf s)) x))
+  all-read p j v′ x′ f l q e =
+      let w = put p j v′ x′ f (done-there p j v′ x′ f l) in
+      (ap ScalarResult.Done e ∙ done p j v′ x′ f l, (w .0, w .1))
 
 -- ---- the six values put out
 counted : {A : Type 0} (F : ℕ → Format A) (n : ℕ) (cs : List A) → each-Ok F (replicate n 0) cs → length cs ≡ n

@@ -8,7 +8,7 @@ use Rattle.bits.specs.Format.{got}
 use Rattle.tables.specs.Tables.{mantBits}
 use Rattle.levels.specs.Codes.{coded}
 use Rattle.scalars.specs.Scalars.{codeIn}
-use Rattle.scalars.proofs.Six.{SoFar, none-yet, in-lists, one-more, cut, cut-there, put, done, done-there, code-accepted}
+use Rattle.scalars.proofs.Six.{SoFar, none-yet, in-lists, one-more, cut, cut-there, put, all-read, code-accepted}
 use native.Mathlib.Omega.{arith}
 use borrow.Author.Needs.{needs}
 use Rattle.scalars.proofs.read_each.Statement.{statement}
@@ -104,10 +104,7 @@ returns-2 : tie.Need-returns-2 Inv-loop μ-loop
 returns-2 c =
     let l = c .before in
     let a = l .before .before .before .args in
-    let f = l .loop .inv .0 in
-    let q = done-there (a .hebap) (a .gk) (a .at) (now (a .src)) (bitAt (a .pos)) (now (a .values)) (now (a .exact)) (l .loop .p) (l .loop .j) (l .loop .values) (l .loop .exact) f (omega arith) in
-    let w = put (a .hebap) (a .gk) (a .at) (now (a .src)) (bitAt (a .pos)) (now (a .values)) (now (a .exact)) (l .loop .p) (l .loop .j) (l .loop .values) (l .loop .exact) f q in
-    (done (a .hebap) (a .gk) (a .at) (now (a .src)) (bitAt (a .pos)) (now (a .values)) (now (a .exact)) (l .loop .p) (l .loop .j) (l .loop .values) (l .loop .exact) f (omega arith), (w .0, w .1))
+    all-read (a .hebap) (a .gk) (a .at) (now (a .src)) (bitAt (a .pos)) (now (a .values)) (now (a .exact)) (l .loop .p) (l .loop .j) (l .loop .values) (l .loop .exact) (l .loop .inv .0) (omega arith) (l .loop .p) refl
 
 pub read-each-spec : {M : Type 1} → statement M
 read-each-spec =

@@ -1,6 +1,6 @@
 -- `scalars::read_fixed` meets its contract: before each turn the codes read so far are known (Six.SoFar). Assumes nothing.
 use Prim.Native.Nat.{_+_, _-_, _*_, _≤_}
-use mathlib.Core.Path.{_≡_, refl, ap, _∙_}
+use mathlib.Core.Path.{_≡_, refl, _∙_}
 use denote.Ref.{now}
 use lib.ListN.{length, drop, length-set}
 use mir.Syntax.{w32}
@@ -13,8 +13,7 @@ use Rattle.tables.proofs.Rules.{mant-bits}
 use Rattle.levels.specs.declared.Code.{Code}
 use Rattle.levels.specs.Codes.{coded}
 use Rattle.levels.proofs.Common.{large-is}
-use Rattle.scalars.specs.declared.ScalarResult.{ScalarResult}
-use Rattle.scalars.proofs.Six.{SoFar, none-yet, put, done, done-there, code-accepted}
+use Rattle.scalars.proofs.Six.{SoFar, none-yet, all-read, code-accepted}
 use Rattle.scalars.proofs.Ahead.{numberAt, fixed-read, turn}
 use native.Mathlib.Omega.{arith}
 use borrow.Author.Needs.{needs}
@@ -144,11 +143,8 @@ returns : tie.Need-returns Inv-loop μ-loop
 returns c =
     let l = c .before .before in
     let a = l .before .before .before .args in
-    let f = l .loop .inv .0 in
-    let p = posOf (bitAt (a .pos) + l .loop .d) in
-    let q = done-there (a .hebap) 1 (a .at) (now (a .src)) (bitAt (a .pos)) (now (a .values)) (now (a .exact)) p (l .loop .j) (l .loop .values) (l .loop .exact) f (omega arith) in
-    let w = put (a .hebap) 1 (a .at) (now (a .src)) (bitAt (a .pos)) (now (a .values)) (now (a .exact)) p (l .loop .j) (l .loop .values) (l .loop .exact) f q in
-    (ap ScalarResult.Done (c .past2 .ensures) ∙ done (a .hebap) 1 (a .at) (now (a .src)) (bitAt (a .pos)) (now (a .values)) (now (a .exact)) p (l .loop .j) (l .loop .values) (l .loop .exact) f (omega arith), (w .0, w .1))
+    all-read (a .hebap) 1 (a .at) (now (a .src)) (bitAt (a .pos)) (now (a .values)) (now (a .exact)) (posOf (bitAt (a .pos) + l .loop .d)) (l .loop .j) (l .loop .values) (l .loop .exact) (l .loop .inv .0) (omega arith)
+    (c .past2 .result) (c .past2 .ensures)
 
 pub read-fixed-spec : {M : Type 1} → statement M
 read-fixed-spec =

@@ -1,6 +1,6 @@
 -- `scalars::read_small_or_large` meets its contract: before each turn the codes read so far are known (Six.SoFar). Assumes nothing.
 use Prim.Native.Nat.{_+_, _-_, _*_, _≤_}
-use mathlib.Core.Path.{_≡_, refl, sym, ap, _∙_}
+use mathlib.Core.Path.{_≡_, refl, sym, _∙_}
 use mathlib.Core.Bool.{false}
 use denote.Ref.{now}
 use borrow.Author.Tests.{ne-eqb}
@@ -16,8 +16,7 @@ use Rattle.tables.proofs.Rules.{mant-bits}
 use Rattle.levels.specs.declared.Code.{Code}
 use Rattle.levels.specs.Codes.{tag, smallBits, largeBits, coded}
 use Rattle.levels.proofs.Common.{small-is, large-is}
-use Rattle.scalars.specs.declared.ScalarResult.{ScalarResult}
-use Rattle.scalars.proofs.Six.{SoFar, none-yet, in-lists, put, done, done-there, code-accepted}
+use Rattle.scalars.proofs.Six.{SoFar, none-yet, in-lists, all-read, code-accepted}
 use Rattle.scalars.proofs.Ahead.{numberAt, small-read, large-read, turn, Widths, widths}
 use native.Mathlib.Omega.{arith}
 use borrow.Author.Needs.{needs}
@@ -262,11 +261,8 @@ returns : tie.Need-returns Inv-loop μ-loop
 returns c =
     let l = c .before .before in
     let a = l .before .before .before .args in
-    let f = l .loop .inv .0 in
-    let p = posOf (bitAt (a .pos) + l .loop .d) in
-    let q = done-there (a .hebap) (a .gk) (a .at) (now (a .src)) (bitAt (a .pos)) (now (a .values)) (now (a .exact)) p (l .loop .j) (l .loop .values) (l .loop .exact) f (omega arith) in
-    let w = put (a .hebap) (a .gk) (a .at) (now (a .src)) (bitAt (a .pos)) (now (a .values)) (now (a .exact)) p (l .loop .j) (l .loop .values) (l .loop .exact) f q in
-    (ap ScalarResult.Done (c .past3 .ensures) ∙ done (a .hebap) (a .gk) (a .at) (now (a .src)) (bitAt (a .pos)) (now (a .values)) (now (a .exact)) p (l .loop .j) (l .loop .values) (l .loop .exact) f (omega arith), (w .0, w .1))
+    all-read (a .hebap) (a .gk) (a .at) (now (a .src)) (bitAt (a .pos)) (now (a .values)) (now (a .exact)) (posOf (bitAt (a .pos) + l .loop .d)) (l .loop .j) (l .loop .values) (l .loop .exact) (l .loop .inv .0) (omega arith)
+    (c .past3 .result) (c .past3 .ensures)
 
 pub read-small-or-large-spec : {M : Type 1} → statement M
 read-small-or-large-spec =
