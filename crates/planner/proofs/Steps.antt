@@ -17,7 +17,7 @@ use Rattle.gains.specs.declared.Coding.{Coding}
 use Rattle.planner.specs.Bins.{sumOver}
 use Rattle.planner.specs.Cost.{componentBits, sixBits}
 use Rattle.planner.specs.Choice.{cheaper, cheapest}
-use Rattle.planner.specs.Work.{sizeOf, limitOf, limitsOf, tagged, taggedBits, costsOf, costIn, gainIn, codedBits, leastIn, withBin, payloadIn, modeIn}
+use Rattle.planner.specs.Work.{sizeOf, limitOf, limitsOf, tagAt, taggedBits, costsOf, costIn, gainIn, codedBits, leastIn, withBin, payloadIn, modeIn}
 use Rattle.planner.specs.declared.Costs.{Costs}
 use Rattle.planner.specs.declared.Limits.{Limits}
 use Rattle.planner.specs.declared.Tally.{Tally}
@@ -232,14 +232,14 @@ with-bin t h c r0 r1 r2 r3 b1 b2 n1 n2 e0 e1 e2 e3 f1 g1 f2 g2 =
     rw (e0, e1, e2, e3, k1, k2)
 
 -- ---- the loop over six components
-pub tagged-most : (limit : Float) (x : List Float) (a i t : ℕ) → i ≤ a + 6 → t ≡ sumOver (tagged limit x) a i → t ≤ 6
+pub tagged-most : (limit : Float) (x : List Float) (a i t : ℕ) → i ≤ a + 6 → t ≡ sumOver (tagAt limit x) a i → t ≤ 6
 tagged-most limit x a i t h e =
-    let f = tagged limit x in
+    let f = tagAt limit x in
     le-trans (le-of-eq e) (le-trans (sum-grows f a i (a + 6) h) (sum-run-le f 1 a 6 (λ k. one-small (le limit (sizeOf (getD x k nan))))))
 
-pub tagged-turn : (limit : Float) (x : List Float) (a i t : ℕ) (s : Float) (r : ℕ) → a ≤ i → t ≡ sumOver (tagged limit x) a i → s ≡ sizeOf (getD x i nan) → r ≡ cond (le limit s) 1 0
-    → t + r ≡ sumOver (tagged limit x) a (i + 1)
-tagged-turn limit x a i t s r h p es er = sum-turn (tagged limit x) a i t r h p (er ∙ ap (λ (z : Float). cond {A = ℕ} (le limit z) 1 0) es)
+pub tagged-turn : (limit : Float) (x : List Float) (a i t : ℕ) (s : Float) (r : ℕ) → a ≤ i → t ≡ sumOver (tagAt limit x) a i → s ≡ sizeOf (getD x i nan) → r ≡ cond (le limit s) 1 0
+    → t + r ≡ sumOver (tagAt limit x) a (i + 1)
+tagged-turn limit x a i t s r h p es er = sum-turn (tagAt limit x) a i t r h p (er ∙ ap (λ (z : Float). cond {A = ℕ} (le limit z) 1 0) es)
 
 -- a count times a width
 pub product-most : (a b : ℕ) → a ≤ 12 → b ≤ 16 → a * b ≤ 192

@@ -32,12 +32,12 @@ limitsOf h = let m = mantBits h in record { two = limitOf (m - 1) (m - 1); four 
 
 -- ---- one bin
 -- one for a component that takes the tag
-abbrev pub tagged : Float → List Float → ℕ → ℕ
-tagged limit x k = cond (le limit (sizeOf (getD x k nan))) 1 0
+abbrev pub tagAt : Float → List Float → ℕ → ℕ
+tagAt limit x k = cond (le limit (sizeOf (getD x k nan))) 1 0
 
 -- six codes of the bits small, and large more behind each tag
 unfoldable pub taggedBits : List Float → ℕ → Float → ℕ → ℕ → ℕ
-taggedBits x a limit small large = 6 * small + sumOver (tagged limit x) a (a + 6) * large
+taggedBits x a limit small large = 6 * small + sumOver (tagAt limit x) a (a + 6) * large
 
 -- six codes at Gk 1, 2 and 4; only hebap 8 to 16 may have a gain other than 1
 unfoldable pub costsOf : ℕ → List Float → ℕ → Costs

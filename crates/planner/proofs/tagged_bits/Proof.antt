@@ -3,7 +3,7 @@ use Prim.Native.Nat.{_-_, _+_, _*_, _≤_}
 use mathlib.Core.Path.{_≡_, sym, ap}
 use lib.Ieee.{le}
 use Rattle.planner.specs.Bins.{sumOver}
-use Rattle.planner.specs.Work.{tagged, taggedBits}
+use Rattle.planner.specs.Work.{tagAt, taggedBits}
 use Rattle.planner.proofs.Over.{sum-none, sum-end}
 use Rattle.planner.proofs.Steps.{one-small, tagged-most, tagged-turn, product-most}
 use native.Mathlib.Nat.{le-refl}
@@ -13,7 +13,7 @@ use Rattle.planner.proofs.tagged_bits.Statement.{statement}
 use Rattle.planner.proofs.tagged_bits.Tie as tie
 
 abbrev Inv-loop : tie.InvT-loop
-Inv-loop x a limit small large n₀ i₀ end n i = (a ≤ i) × (i ≤ a + 6) × (n ≡ sumOver (tagged limit x) a i)
+Inv-loop x a limit small large n₀ i₀ end n i = (a ≤ i) × (i ≤ a + 6) × (n ≡ sumOver (tagAt limit x) a i)
 
 abbrev μ-loop : tie.MeasureT-loop
 μ-loop x a limit small large n₀ i₀ end n i = a + 6 - i
@@ -30,7 +30,7 @@ add-end : tie.Need-add-end Inv-loop μ-loop
 add-end c = search needs
 
 loop-holds : tie.Need-loop-holds Inv-loop μ-loop
-loop-holds c = let a = c .before .args in (le-refl (a .a), omega arith, sym (sum-none (tagged (a .limit) (a .x .now)) (a .a) (a .a) (le-refl (a .a))))
+loop-holds c = let a = c .before .args in (le-refl (a .a), omega arith, sym (sum-none (tagAt (a .limit) (a .x .now)) (a .a) (a .a) (le-refl (a .a))))
 
 mul-size : tie.Need-mul-size Inv-loop μ-loop
 mul-size c = search needs
@@ -81,7 +81,7 @@ returns c =
     let l = c .before in
     let a = l .before .before .args in
     let v = l .loop .inv in
-    ap (λ n. 6 * a .small + n * a .large) (sum-end (tagged (a .limit) (a .x .now)) (a .a) (l .loop .i) (a .a + 6) (l .loop .n) (v .1) (c .loop-test .left) (v .2))
+    ap (λ n. 6 * a .small + n * a .large) (sum-end (tagAt (a .limit) (a .x .now)) (a .a) (l .loop .i) (a .a + 6) (l .loop .n) (v .1) (c .loop-test .left) (v .2))
 
 pub tagged-bits-spec : {M : Type 1} → statement M
 tagged-bits-spec =
