@@ -1,6 +1,10 @@
 // What replay and replay_channels share. A record is a call with the answer that the Rust gave (tests/judge/record.rs wrote it):
 // its places, the numbers that stand there, whether an answer is the record's, and the count of answers.
-ghost use Prim.Native.Nat.{_+_, _<_, _≤_};
+ghost use mathlib.Core.Path.{_≡_};
+ghost use mathlib.Core.Bool.{true};
+ghost use Prim.Native.Nat.{min, _+_, _<_, _≤_};
+ghost use lib.ListN.{take, drop};
+ghost use Rattle.records.specs.Records.{at8, at16, at32, at64, signed, floatOf, positionOf, inputOf, sameValue, samePlace, sameWritten, sameFloat, sameFloats, newCount, oneMore, countAfter};
 use bits::BitPos;
 use bits::BitWrite;
 use libc::STDIN_FILENO;
@@ -60,7 +64,7 @@ pub struct Count {
 
 // A byte as a number of 64 bits.
 pub fn wide(b: u8) -> u64
-    ensures { λ v. ⌜ v < 256 ⌝ }
+    ensures { λ v. ⌜ (v ≡ b) × (v < 256) ⌝ }
 {
     b as u64
 }
@@ -68,26 +72,29 @@ pub fn wide(b: u8) -> u64
 // The numbers of 16, 32 and 64 bits at a place, the least significant byte first.
 pub fn number16(r: &Record, at: usize) -> u64
     requires { ⌜ at + 2 ≤ 256 ⌝ }
-    ensures { λ v. ⌜ v < 0x1_0000 ⌝ }
+    ensures { λ v. ⌜ (v ≡ at16 (now (r .entry)) at) × (v < 0x1_0000) ⌝ }
 {
     wide(r[at]) + 256 * wide(r[at + 1])
 }
 
 pub fn number32(r: &Record, at: usize) -> u64
     requires { ⌜ at + 4 ≤ 256 ⌝ }
-    ensures { λ v. ⌜ v < 0x1_0000_0000 ⌝ }
+    ensures { λ v. ⌜ (v ≡ at32 (now (r .entry)) at) × (v < 0x1_0000_0000) ⌝ }
 {
     number16(r, at) + 0x1_0000 * number16(r, at + 2)
 }
 
 pub fn number64(r: &Record, at: usize) -> u64
     requires { ⌜ at + 8 ≤ 256 ⌝ }
+    ensures { λ v. ⌜ v ≡ at64 (now (r .entry)) at ⌝ }
 {
     number32(r, at) + 0x1_0000_0000 * number32(r, at + 4)
 }
 
 // The position of the call.
-pub fn position(r: &Record) -> BitPos {
+pub fn position(r: &Record) -> BitPos
+    ensures { λ p. ⌜ p ≡ positionOf (now (r .entry)) ⌝ }
+{
     BitPos {
         byte: number64(r, BYTE) as usize,
         bit: number32(r, BIT) as u32,
@@ -95,7 +102,9 @@ pub fn position(r: &Record) -> BitPos {
 }
 
 // The number that the bits of v are in two's complement.
-pub fn signed8(v: u8) -> i8 {
+pub fn signed8(v: u8) -> i8
+    ensures { λ z. ⌜ z ≡ signed 8 v ⌝ }
+{
     if v < 0x80 {
         v as i8
     } else {
@@ -105,6 +114,7 @@ pub fn signed8(v: u8) -> i8 {
 
 pub fn signed16(v: u64) -> i16
     requires { ⌜ v < 0x1_0000 ⌝ }
+    ensures { λ z. ⌜ z ≡ signed 16 v ⌝ }
 {
     if v < 0x8000 {
         v as i16
@@ -115,6 +125,7 @@ pub fn signed16(v: u64) -> i16
 
 pub fn signed32(v: u64) -> i32
     requires { ⌜ v < 0x1_0000_0000 ⌝ }
+    ensures { λ z. ⌜ z ≡ signed 32 v ⌝ }
 {
     if v < 0x8000_0000 {
         v as i32
@@ -125,31 +136,38 @@ pub fn signed32(v: u64) -> i32
 
 // A length of the record, at most 24.
 pub fn size(b: u8) -> usize
-    ensures { λ n. ⌜ n ≤ 24 ⌝ }
+    ensures { λ n. ⌜ (n ≡ min 24 b) × (n ≤ 24) ⌝ }
 {
     if b < 24 { b as usize } else { 24 }
 }
 
 // The input of the call.
-pub fn input(r: &Record) -> &[u8] {
+pub fn input(r: &Record) -> &[u8]
+    ensures { λ s. ⌜ now s ≡ inputOf (now (r .entry)) ⌝ }
+{
     let all = &r[..];
     let end = SRC + size(r[SRC_LEN]);
     &all[SRC..end]
 }
 
 // Whether the answer has the record's refusal and value.
-pub fn same_value(r: &Record, refusal: u8, value: u64) -> bool {
+pub fn same_value(r: &Record, refusal: u8, value: u64) -> bool
+    ensures { λ b. ⌜ b ≡ sameValue (now (r .entry)) refusal value ⌝ }
+{
     r[REFUSAL] == refusal && number64(r, VALUE) == value
 }
 
 // Whether the position is the record's.
-pub fn same_place(r: &Record, p: BitPos) -> bool {
+pub fn same_place(r: &Record, p: BitPos) -> bool
+    ensures { λ b. ⌜ b ≡ samePlace (now (r .entry)) p ⌝ }
+{
     number64(r, NEXT_BYTE) == p.byte as u64 && number32(r, NEXT_BIT) as u32 == p.bit
 }
 
 // Whether the n places of the output, in a copy of the record, are what the record has after the call.
 pub fn same_out(r: &Record, out: &Record, n: usize) -> bool
     requires { ⌜ n ≤ 24 ⌝ }
+    ensures { λ b. ⌜ (b ≡ true → take n (drop 56 (now (out .entry))) ≡ take n (drop 80 (now (r .entry)))) × (take n (drop 56 (now (out .entry))) ≡ take n (drop 80 (now (r .entry))) → b ≡ true) ⌝ }
 {
     let given = &out[..];
     let wanted = &r[..];
@@ -159,7 +177,9 @@ pub fn same_out(r: &Record, out: &Record, n: usize) -> bool
 }
 
 // Whether the answer of a call that writes is the record's.
-pub fn same_written(r: &Record, answer: BitWrite) -> bool {
+pub fn same_written(r: &Record, answer: BitWrite) -> bool
+    ensures { λ b. ⌜ b ≡ sameWritten (now (r .entry)) answer ⌝ }
+{
     match answer {
         BitWrite::Done(q) => same_value(r, 0, 0) && same_place(r, q),
         BitWrite::Refused(k) => same_value(r, k, 0),
@@ -169,6 +189,7 @@ pub fn same_written(r: &Record, answer: BitWrite) -> bool {
 // Whether y has the bits that the record has at a place. A NaN has no bits of its own, and no answer is one.
 pub fn same_float(r: &Record, at: usize, y: f32) -> bool
     requires { ⌜ at + 4 ≤ 256 ⌝ }
+    ensures { λ b. ⌜ b ≡ sameFloat (now (r .entry)) at y ⌝ }
 {
     if y != y {
         return false;
@@ -177,17 +198,21 @@ pub fn same_float(r: &Record, at: usize, y: f32) -> bool
 }
 
 // Whether the six have the bits of the output after the call.
-pub fn same_floats(r: &Record, y: &[f32; 6]) -> bool {
+pub fn same_floats(r: &Record, y: &[f32; 6]) -> bool
+    ensures { λ b. ⌜ b ≡ sameFloats (now (r .entry)) (now (y .entry)) ⌝ }
+{
     same_float(r, OUT_AFTER, y[0])
-        && same_float(r, OUT_AFTER + 4, y[1])
-        && same_float(r, OUT_AFTER + 8, y[2])
-        && same_float(r, OUT_AFTER + 12, y[3])
-        && same_float(r, OUT_AFTER + 16, y[4])
-        && same_float(r, OUT_AFTER + 20, y[5])
+        & same_float(r, OUT_AFTER + 4, y[1])
+        & same_float(r, OUT_AFTER + 8, y[2])
+        & same_float(r, OUT_AFTER + 12, y[3])
+        & same_float(r, OUT_AFTER + 16, y[4])
+        & same_float(r, OUT_AFTER + 20, y[5])
 }
 
 // The f32 of these bits. No record has a NaN, whose bits name no number.
-fn float_of(bits: u32) -> f32 {
+fn float_of(bits: u32) -> f32
+    ensures { λ x. ⌜ x ≡ floatOf bits ⌝ }
+{
     if 0x7f80_0000 < bits % 0x8000_0000 {
         return 0.0;
     }
@@ -197,12 +222,15 @@ fn float_of(bits: u32) -> f32 {
 // The f32 at a place.
 pub fn number(r: &Record, at: usize) -> f32
     requires { ⌜ at + 4 ≤ 256 ⌝ }
+    ensures { λ x. ⌜ x ≡ floatOf (at32 (now (r .entry)) at) ⌝ }
 {
     float_of(number32(r, at) as u32)
 }
 
 // The count with one more answer.
-pub fn one_more(c: Count, ok: bool) -> Count {
+fn one_more(c: Count, ok: bool) -> Count
+    ensures { λ n. ⌜ n ≡ oneMore c ok ⌝ }
+{
     Count {
         function: c.function,
         answers: std::num::wrapping_add_u64(c.answers, 1),
@@ -215,7 +243,7 @@ pub fn one_more(c: Count, ok: bool) -> Count {
 }
 
 // Prints a count behind its name.
-pub fn print_count(name: &[u8], c: Count) {
+fn print_count(name: &[u8], c: Count) {
     io::write_all(STDOUT_FILENO, name);
     io::write_all(STDOUT_FILENO, b": ");
     io::print_decimal(STDOUT_FILENO, c.answers);
@@ -224,7 +252,58 @@ pub fn print_count(name: &[u8], c: Count) {
     io::write_all(STDOUT_FILENO, b" wrong\n");
 }
 
-// Reads the next record; false where the input has no whole one any more.
+// Prints a count behind the name of its function. No contract can say what is written.
+pub fn print(c: Count) {
+    let function = c.function;
+    match function {
+        1 => print_count(b"read_u32", c),
+        2 => print_count(b"write_u32", c),
+        3 => print_count(b"hebap_from_address", c),
+        4 => print_count(b"endbap_for_gaqmod", c),
+        5 => print_count(b"fill_gaqbin", c),
+        6 => print_count(b"gaq_sections", c),
+        7 => print_count(b"gaq_gain_value", c),
+        8 => print_count(b"read_gaq_gains", c),
+        9 => print_count(b"read_scalar_aht_mantissas", c),
+        10 => print_count(b"vq_lookup", c),
+        11 => print_count(b"vq_search", c),
+        12 => print_count(b"quantise_scalar", c),
+        13 => print_count(b"quantise_bin", c),
+        14 => print_count(b"plan_aht_channel", c),
+        15 => print_count(b"write_aht_channel", c),
+        16 => print_count(b"read_aht_channel", c),
+        17 => print_count(b"read_first", c),
+        18 => print_count(b"plan_write_read", c),
+        _ => print_count(b"no function", c),
+    }
+}
+
+// A function's count before its first answer.
+pub fn new_count(function: u8) -> Count
+    ensures { λ n. ⌜ n ≡ newCount function ⌝ }
+{
+    Count {
+        function,
+        answers: 0,
+        wrong: 0,
+    }
+}
+
+// The count after the answer to a record. The records stand by function: where the next one begins, the count of the last one is printed.
+pub fn counted(c: Count, r: &Record, ok: bool) -> Count
+    ensures { λ n. ⌜ n ≡ countAfter c (at8 (now (r .entry)) 0) ok ⌝ }
+{
+    let function = r[0];
+    if c.function == function {
+        return one_more(c, ok);
+    }
+    if 0 < c.answers {
+        print(c);
+    }
+    one_more(new_count(function), ok)
+}
+
+// Reads the next record; false where the input has no whole one any more. No contract can say what is read.
 pub fn next(r: &mut Record) -> bool {
     io::read_full(STDIN_FILENO, &mut *r) == 256
 }

@@ -14,7 +14,6 @@ use records::ARG32;
 use records::ARG64;
 use records::B;
 use records::C;
-use records::Count;
 use records::D;
 use records::OUT;
 use records::OUT_AFTER;
@@ -236,57 +235,14 @@ fn right(r: &Record) -> bool {
     }
 }
 
-// Prints a count.
-fn print(c: Count) {
-    let function = c.function;
-    match function {
-        1 => records::print_count(b"read_u32", c),
-        2 => records::print_count(b"write_u32", c),
-        3 => records::print_count(b"hebap_from_address", c),
-        4 => records::print_count(b"endbap_for_gaqmod", c),
-        5 => records::print_count(b"fill_gaqbin", c),
-        6 => records::print_count(b"gaq_sections", c),
-        7 => records::print_count(b"gaq_gain_value", c),
-        8 => records::print_count(b"read_gaq_gains", c),
-        9 => records::print_count(b"read_scalar_aht_mantissas", c),
-        10 => records::print_count(b"vq_lookup", c),
-        11 => records::print_count(b"vq_search", c),
-        12 => records::print_count(b"quantise_scalar", c),
-        13 => records::print_count(b"quantise_bin", c),
-        17 => records::print_count(b"read_first", c),
-        _ => records::print_count(b"no function", c),
-    }
-}
-
-// Replays a record. The records stand by function: where the next one begins, the count of the last one is printed.
-fn counted(c: Count, r: &Record) -> Count {
-    let function = r[0];
-    if c.function == function {
-        return records::one_more(c, right(r));
-    }
-    if 0 < c.answers {
-        print(c);
-    }
-    let new = Count {
-        function,
-        answers: 0,
-        wrong: 0,
-    };
-    records::one_more(new, right(r))
-}
-
 // A proved loop has to end, so it counts its turns down, from a number that no input uses up.
 fn main() {
     let mut record = [0u8; 256];
-    let mut c = Count {
-        function: 0,
-        answers: 0,
-        wrong: 0,
-    };
+    let mut c = records::new_count(0);
     let mut turns = u64::MAX;
     while 0 < turns && records::next(&mut record) {
-        c = counted(c, &record);
+        c = records::counted(c, &record, right(&record));
         turns -= 1;
     }
-    print(c);
+    records::print(c);
 }

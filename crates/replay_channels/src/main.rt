@@ -10,7 +10,6 @@ use records::ARG64;
 use records::B;
 use records::BYTE;
 use records::C;
-use records::Count;
 use records::D;
 use records::EXACT;
 use records::INDICES;
@@ -269,47 +268,14 @@ fn right(r: &Record) -> bool {
     }
 }
 
-// Prints a count.
-fn print(c: Count) {
-    let function = c.function;
-    match function {
-        14 => records::print_count(b"plan_aht_channel", c),
-        15 => records::print_count(b"write_aht_channel", c),
-        16 => records::print_count(b"read_aht_channel", c),
-        18 => records::print_count(b"plan_write_read", c),
-        _ => records::print_count(b"no function", c),
-    }
-}
-
-// Replays a record. The records stand by function: where the next one begins, the count of the last one is printed.
-fn counted(c: Count, r: &Record) -> Count {
-    let function = r[0];
-    if c.function == function {
-        return records::one_more(c, right(r));
-    }
-    if 0 < c.answers {
-        print(c);
-    }
-    let new = Count {
-        function,
-        answers: 0,
-        wrong: 0,
-    };
-    records::one_more(new, right(r))
-}
-
 // A proved loop has to end, so it counts its turns down, from a number that no input uses up.
 fn main() {
     let mut record = [0u8; 256];
-    let mut c = Count {
-        function: 0,
-        answers: 0,
-        wrong: 0,
-    };
+    let mut c = records::new_count(0);
     let mut turns = u64::MAX;
     while 0 < turns && records::next(&mut record) {
-        c = counted(c, &record);
+        c = records::counted(c, &record, right(&record));
         turns -= 1;
     }
-    print(c);
+    records::print(c);
 }

@@ -9,11 +9,17 @@ Inv-loop record₀ c₀ turns₀ «record» c turns = Unit {0}
 abbrev μ-loop : tie.MeasureT-loop
 μ-loop record₀ c₀ turns₀ «record» c turns = turns
 
+new-count-requires : tie.Need-new-count-requires Inv-loop μ-loop
+new-count-requires c κs = tt
+
 loop-holds : tie.Need-loop-holds Inv-loop μ-loop
 loop-holds c = tt
 
 next-requires : tie.Need-next-requires Inv-loop μ-loop
 next-requires c κs = tt
+
+right-requires : tie.Need-right-requires Inv-loop μ-loop
+right-requires c κs = tt
 
 counted-requires : tie.Need-counted-requires Inv-loop μ-loop
 counted-requires c κs = tt
@@ -34,4 +40,4 @@ returns : tie.Need-returns Inv-loop μ-loop
 returns c = tt
 
 pub main-spec : {M : Type 1} → statement M
-main-spec = tie.close (tie.spec Inv-loop μ-loop loop-holds next-requires counted-requires sub-turns loop-less loop-again print-requires returns)
+main-spec = tie.close (tie.spec Inv-loop μ-loop new-count-requires loop-holds next-requires right-requires counted-requires sub-turns loop-less loop-again print-requires returns)

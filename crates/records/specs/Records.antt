@@ -1,0 +1,73 @@
+-- What stands at the places of a record, when an answer is the record's, and the count of answers.
+use Prim.Native.Nat.{ℕ, suc, min, _+_, _-_, _*_, _%_, _^_}
+use mathlib.Core.Bool.{Bool, cond, not, _&&_}
+use mathlib.Core.List.{List}
+use lib.Dec.{eqb, ltb}
+use lib.IntN.{ℤ, pos, negsuc}
+use lib.ListN.{take, drop, getD}
+use lib.Ieee.{Float, nan, binary32, ofBits, toBits, isNan}
+use Rattle.bits.specs.declared.BitPos.{BitPos}
+use Rattle.bits.specs.declared.BitWrite.{BitWrite}
+use Rattle.records.specs.declared.Count.{Count}
+
+-- ---- numbers
+-- the byte at a place, and the numbers of 16, 32 and 64 bits there, the least significant byte first
+abbrev pub at8 : List ℕ → ℕ → ℕ
+at8 r k = getD r k 0
+
+abbrev pub at16 : List ℕ → ℕ → ℕ
+at16 r k = at8 r k + 256 * at8 r (k + 1)
+
+abbrev pub at32 : List ℕ → ℕ → ℕ
+at32 r k = at16 r k + 0x1_0000 * at16 r (k + 2)
+
+abbrev pub at64 : List ℕ → ℕ → ℕ
+at64 r k = at32 r k + 0x1_0000_0000 * at32 r (k + 4)
+
+-- the number that the w bits of v are in two's complement
+abbrev pub signed : ℕ → ℕ → ℤ
+signed w v = cond (ltb v (2 ^ (w - 1))) (pos v) (negsuc (2 ^ w - suc v))
+
+-- the f32 of these bits, 0 where they are a NaN's
+unfoldable pub floatOf : ℕ → Float
+floatOf bits = cond (ltb 0x7f80_0000 (bits % 0x8000_0000)) (ofBits binary32 0) (ofBits binary32 bits)
+
+-- ---- the call
+abbrev pub positionOf : List ℕ → BitPos
+positionOf r = record { byte = at64 r 8; bit = at32 r 16 }
+
+abbrev pub inputOf : List ℕ → List ℕ
+inputOf r = take (min 24 (at8 r 6)) (drop 32 r)
+
+-- ---- the answer
+abbrev pub sameValue : List ℕ → ℕ → ℕ → Bool
+sameValue r refusal value = eqb (at8 r 1) refusal && eqb (at64 r 104) value
+
+abbrev pub samePlace : List ℕ → BitPos → Bool
+samePlace r p = eqb (at64 r 112) (p .byte) && eqb (at32 r 120) (p .bit)
+
+abbrev pub sameWritten : List ℕ → BitWrite → Bool
+sameWritten r (BitWrite.Done q) = sameValue r 0 0 && samePlace r q
+sameWritten r (BitWrite.Refused k) = sameValue r k 0
+
+-- the bits of y, no NaN, stand at the place
+unfoldable pub sameFloat : List ℕ → ℕ → Float → Bool
+sameFloat r k y = not (isNan y) && eqb (toBits binary32 y) (at32 r k)
+
+-- the float k of six, which stand from the place 80 on, and all six
+abbrev pub sameOne : List ℕ → List Float → ℕ → Bool
+sameOne r y k = sameFloat r (80 + 4 * k) (getD y k nan)
+
+abbrev pub sameFloats : List ℕ → List Float → Bool
+sameFloats r y = ((((sameOne r y 0 && sameOne r y 1) && sameOne r y 2) && sameOne r y 3) && sameOne r y 4) && sameOne r y 5
+
+-- ---- the count
+abbrev pub newCount : ℕ → Count
+newCount f = record { function = f; answers = 0; wrong = 0 }
+
+abbrev pub oneMore : Count → Bool → Count
+oneMore c ok = record { function = c .function; answers = (c .answers + 1) % 2 ^ 64; wrong = cond ok (c .wrong) ((c .wrong + 1) % 2 ^ 64) }
+
+-- the count after an answer of a function: a new one where the function is another
+abbrev pub countAfter : Count → ℕ → Bool → Count
+countAfter c f ok = oneMore (cond (eqb (c .function) f) c (newCount f)) ok
