@@ -7,6 +7,7 @@ use lib.Dec.{ltb}
 use lib.IntN.{ℤ, pos, negsuc}
 use mir.Val.{sel}
 
+-- `a && b` where a is true, and where it is false
 pub goes-on : {a v : Bool} (b : Bool) → a ≡ true → v ≡ b → v ≡ (a && b)
 goes-on b e h = rw e h
 

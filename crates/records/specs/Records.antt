@@ -1,5 +1,6 @@
--- What stands at the places of a record, when an answer is the record's, and the count of answers.
+-- What stands at the places of a record, when an answer is the record's, and the count of answers. The places are those that src/lib.rt names.
 use Prim.Native.Nat.{ℕ, suc, min, _+_, _-_, _*_, _%_, _^_}
+use mathlib.Core.Path.{_≡_}
 use mathlib.Core.Bool.{Bool, cond, not, _&&_}
 use mathlib.Core.List.{List}
 use lib.Dec.{eqb, ltb}
@@ -15,13 +16,13 @@ use Rattle.records.specs.declared.Count.{Count}
 abbrev pub at8 : List ℕ → ℕ → ℕ
 at8 r k = getD r k 0
 
-abbrev pub at16 : List ℕ → ℕ → ℕ
+unfoldable pub at16 : List ℕ → ℕ → ℕ
 at16 r k = at8 r k + 256 * at8 r (k + 1)
 
-abbrev pub at32 : List ℕ → ℕ → ℕ
+unfoldable pub at32 : List ℕ → ℕ → ℕ
 at32 r k = at16 r k + 0x1_0000 * at16 r (k + 2)
 
-abbrev pub at64 : List ℕ → ℕ → ℕ
+unfoldable pub at64 : List ℕ → ℕ → ℕ
 at64 r k = at32 r k + 0x1_0000_0000 * at32 r (k + 4)
 
 -- the number that the w bits of v are in two's complement
@@ -45,6 +46,10 @@ sameValue r refusal value = eqb (at8 r 1) refusal && eqb (at64 r 104) value
 
 abbrev pub samePlace : List ℕ → BitPos → Bool
 samePlace r p = eqb (at64 r 112) (p .byte) && eqb (at32 r 120) (p .bit)
+
+-- the n places of the output, in a copy of the record, are what the record has after the call
+abbrev pub SameOut : List ℕ → List ℕ → ℕ → Type 0
+SameOut r out n = take n (drop 56 out) ≡ take n (drop 80 r)
 
 abbrev pub sameWritten : List ℕ → BitWrite → Bool
 sameWritten r (BitWrite.Done q) = sameValue r 0 0 && samePlace r q

@@ -3,8 +3,7 @@
 ghost use mathlib.Core.Path.{_≡_};
 ghost use mathlib.Core.Bool.{true};
 ghost use Prim.Native.Nat.{min, _+_, _<_, _≤_};
-ghost use lib.ListN.{take, drop};
-ghost use Rattle.records.specs.Records.{at8, at16, at32, at64, signed, floatOf, positionOf, inputOf, sameValue, samePlace, sameWritten, sameFloat, sameFloats, newCount, oneMore, countAfter};
+ghost use Rattle.records.specs.Records.{at8, at16, at32, at64, signed, floatOf, positionOf, inputOf, sameValue, samePlace, SameOut, sameWritten, sameFloat, sameFloats, newCount, oneMore, countAfter};
 use bits::BitPos;
 use bits::BitWrite;
 use libc::STDIN_FILENO;
@@ -167,7 +166,7 @@ pub fn same_place(r: &Record, p: BitPos) -> bool
 // Whether the n places of the output, in a copy of the record, are what the record has after the call.
 pub fn same_out(r: &Record, out: &Record, n: usize) -> bool
     requires { ⌜ n ≤ 24 ⌝ }
-    ensures { λ b. ⌜ (b ≡ true → take n (drop 56 (now (out .entry))) ≡ take n (drop 80 (now (r .entry)))) × (take n (drop 56 (now (out .entry))) ≡ take n (drop 80 (now (r .entry))) → b ≡ true) ⌝ }
+    ensures { λ b. ⌜ (b ≡ true → SameOut (now (r .entry)) (now (out .entry)) n) × (SameOut (now (r .entry)) (now (out .entry)) n → b ≡ true) ⌝ }
 {
     let given = &out[..];
     let wanted = &r[..];

@@ -1,5 +1,4 @@
 -- `records::counted` meets its contract. Assumes nothing.
-use native.Mathlib.Omega.{arith}
 use borrow.Author.Needs.{needs}
 use Prim.Native.Nat.{ℕ}
 use mathlib.Core.Path.{_≡_, refl, ap, _∙_}

@@ -1,5 +1,4 @@
 -- `records::number` meets its contract. Assumes nothing.
-use native.Mathlib.Omega.{arith}
 use borrow.Author.Needs.{needs}
 use mathlib.Core.Path.{ap, _∙_}
 use Rattle.records.specs.Records.{floatOf}

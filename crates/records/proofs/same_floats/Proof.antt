@@ -1,5 +1,4 @@
 -- `records::same_floats` meets its contract. Assumes nothing.
-use native.Mathlib.Omega.{arith}
 use borrow.Author.Needs.{needs}
 use mathlib.Core.Path.{refl}
 use Rattle.records.proofs.same_floats.Statement.{statement}

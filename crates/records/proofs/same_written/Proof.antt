@@ -1,5 +1,4 @@
 -- `records::same_written` meets its contract. Assumes nothing.
-use native.Mathlib.Omega.{arith}
 use borrow.Author.Needs.{needs}
 use mathlib.Core.Path.{sym, _∙_}
 use Rattle.records.proofs.Laws.{goes-on, stops}
