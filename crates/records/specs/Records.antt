@@ -1,10 +1,9 @@
 -- What stands at the places of a record, when an answer is the record's, and the count of answers. The places are those that src/lib.rt names.
-use Prim.Native.Nat.{ℕ, suc, min, _+_, _-_, _*_, _%_, _^_}
+use Prim.Native.Nat.{ℕ, min, _+_, _-_, _*_, _%_, _^_}
 use mathlib.Core.Path.{_≡_}
 use mathlib.Core.Bool.{Bool, cond, not, _&&_}
 use mathlib.Core.List.{List}
 use lib.Dec.{eqb, ltb}
-use lib.IntN.{ℤ, pos, negsuc}
 use lib.ListN.{take, drop, getD}
 use lib.Ieee.{Float, nan, binary32, ofBits, toBits, isNan}
 use Rattle.bits.specs.declared.BitPos.{BitPos}
@@ -24,10 +23,6 @@ at32 r k = at16 r k + 0x1_0000 * at16 r (k + 2)
 
 unfoldable pub at64 : List ℕ → ℕ → ℕ
 at64 r k = at32 r k + 0x1_0000_0000 * at32 r (k + 4)
-
--- the number that the w bits of v are in two's complement
-abbrev pub signed : ℕ → ℕ → ℤ
-signed w v = cond (ltb v (2 ^ (w - 1))) (pos v) (negsuc (2 ^ w - suc v))
 
 -- the f32 of these bits, 0 where they are a NaN's
 unfoldable pub floatOf : ℕ → Float

@@ -3,7 +3,8 @@
 ghost use mathlib.Core.Path.{_≡_};
 ghost use mathlib.Core.Bool.{true};
 ghost use Prim.Native.Nat.{min, _+_, _<_, _≤_};
-ghost use Rattle.records.specs.Records.{at8, at16, at32, at64, signed, floatOf, positionOf, inputOf, sameValue, samePlace, SameOut, sameWritten, sameFloat, sameFloats, newCount, oneMore, countAfter};
+ghost use Rattle.levels.specs.Codes.{signed};
+ghost use Rattle.records.specs.Records.{at8, at16, at32, at64, floatOf, positionOf, inputOf, sameValue, samePlace, SameOut, sameWritten, sameFloat, sameFloats, newCount, oneMore, countAfter};
 use bits::BitPos;
 use bits::BitWrite;
 use libc::STDIN_FILENO;
