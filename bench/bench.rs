@@ -1,4 +1,5 @@
-//! Times the original Rust and the proved library on the same inputs, in one run, turn by turn, and prints medians and their ratios.
+//! Times the original Rust and the proved library on the same inputs, in one run, turn by turn, and prints medians
+//! and their ratios.
 #![allow(dead_code)]
 mod audblk {
     pub const N_COEFFS: usize = 256;
@@ -105,7 +106,8 @@ struct Sums {
     ours: f64,
 }
 
-/// Seconds a call of plan, write and read, theirs and ours, on eight channels of a kind; short channels are gone through several times a turn.
+/// Seconds a call of plan, write and read, theirs and ours, on eight channels of a kind; short channels are gone
+/// through several times a turn.
 fn measure(kind: usize, bins: usize, random: &mut Random) -> [(f64, f64); 3] {
     let cs = channels(kind, bins, random);
     let plans: Vec<_> = cs.iter().map(|c| ahtenc::plan_aht_channel(&c.row, 0, bins, &c.v)).collect();
@@ -194,7 +196,8 @@ fn measure_search(hebap: u8, random: &mut Random) -> (f64, f64) {
     (t / 200.0, o / 200.0)
 }
 
-/// For tools/growth.py: `call size theirs ours`, microseconds a call; the size is bins of a mixed row, or vectors of a book.
+/// For tools/growth.py: `call size theirs ours`, microseconds a call; the size is bins of a mixed row, or vectors of
+/// a book.
 fn growth(random: &mut Random) {
     for bins in [1, 2, 4, 8, 16, 32, 64, 128, 256] {
         for (call, (t, o)) in ["plan", "write", "read"].iter().zip(measure(2, bins, random)) {

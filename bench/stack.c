@@ -1,6 +1,6 @@
 /*
- * How much stack each call takes: it runs on a painted one, and what is no longer paint behind it is counted. An empty call, which the
- * thread itself needs, is taken off.
+ * How much stack each call takes: it runs on a painted one, and what is no longer paint behind it is counted. An
+ * empty call, which the thread itself needs, is taken off.
  */
 #include <pthread.h>
 #include <stdio.h>

@@ -1,31 +1,31 @@
 /*
  * Fathrugg: the channel coder of the adaptive hybrid transform of E-AC-3, as proved calls. Link with libfathrugg.a.
  *
- * Answers. Each call answers 0, or the number of its refusal. Of causes that hold together it answers the first in the order
- * that the call's comment has them in. A refused call leaves every buffer, every number and every position that was lent as
- * it was.
+ * Answers. Each call answers 0, or the number of its refusal. Of causes that hold together it answers the first in
+ * the order that the call's comment has them in. A refused call leaves every buffer, every number and every position
+ * that was lent as it was.
  *
- * Lengths. A buffer is a pointer followed by its length. A length counts places of the buffer's type (bytes, floats, ..), not
- * bytes. A longer buffer than needed is fine: the places behind are kept. gains, and vectors of six floats, have a fixed length
- * and no number behind them.
+ * Lengths. A buffer is a pointer followed by its length. A length counts places of the buffer's type (bytes, floats,
+ * ..), not bytes. A longer buffer than needed is fine: the places behind are kept. gains, and vectors of six floats,
+ * have a fixed length and no number behind them.
  *
- * Bins. A channel has the bins start to end - 1, with end at most 256. hebap is the row: a number 0 to 19 for each bin. All
- * buffers begin at bin 0, also where start is above 0: bin k has the place k of hebap and indices, and the six places from 6 * k on
- * of x, values and exact.
+ * Bins. A channel has the bins start to end - 1, with end at most 256. hebap is the row: a number 0 to 19 for each
+ * bin. All buffers begin at bin 0, also where start is above 0: bin k has the place k of hebap and indices, and the
+ * six places from 6 * k on of x, values and exact.
  *
- * Gains. Gk is 1, 2 or 4. gains has 256 bytes: Gk of each bin that has a gain of its own in the mode (hebap 8 to 11 in mode 1,
- * 8 to 16 in modes 2 and 3, none in mode 0), in bin order, count of them.
+ * Gains. Gk is 1, 2 or 4. gains has 256 bytes: Gk of each bin that has a gain of its own in the mode (hebap 8 to 11
+ * in mode 1, 8 to 16 in modes 2 and 3, none in mode 0), in bin order, count of them.
  *
- * Bits. The first bit of a byte is the heaviest. A position is a byte and a bit: the bit 8 * byte + bit of the buffer, for any two
- * numbers. A call that moves a position leaves it with a bit below 8. A position at the end of the buffer is fine; one past it is
- * refused, also where no bit is needed.
+ * Bits. The first bit of a byte is the heaviest. A position is a byte and a bit: the bit 8 * byte + bit of the
+ * buffer, for any two numbers. A call that moves a position leaves it with a bit below 8. A position at the end of
+ * the buffer is fine; one past it is refused, also where no bit is needed.
  *
- * What you must see to. No pointer is NULL, also not with a length of 0. A buffer has as many places as its length says. What a
- * call writes to overlaps nothing else that is lent to it. Floats are rounded to nearest, and subnormal numbers are not
- * flushed to zero, as is the default.
+ * What you must see to. No pointer is NULL, also not with a length of 0. A buffer has as many places as its length
+ * says. What a call writes to overlaps nothing else that is lent to it. Floats are rounded to nearest, and subnormal
+ * numbers are not flushed to zero, as is the default.
  *
- * The library keeps no state and takes no memory but the stack, some 28 KB a call at most (docs/PERFORMANCE.md): calls may run at
- * the same time.
+ * The library keeps no state and takes no memory but the stack, some 28 KB a call at most (docs/PERFORMANCE.md):
+ * calls may run at the same time.
  */
 #ifndef FATHRUGG_H
 #define FATHRUGG_H
@@ -62,13 +62,13 @@ enum fathrugg_refusal {
 #define FATHRUGG_COMPONENTS 1536  /* six for each: the most places of x, values and exact that are used */
 #define FATHRUGG_GAINS 256        /* the bytes of gains */
 #define FATHRUGG_FIELD_BITS 31152 /* the most bits of a field, with the two of its mode */
-#define FATHRUGG_FIELD_BYTES 3894 /* the same as bytes, for a field that begins with a byte; one more where it begins inside one */
+#define FATHRUGG_FIELD_BYTES 3894 /* the same as bytes; one more where a field begins inside a byte */
 
 /* ---- Planning, writing, reading. */
 
 /*
- * Plans the bins start to end - 1: the mode and the gains whose field has the fewest bits; of equals the lower gains, then the
- * lower mode.
+ * Plans the bins start to end - 1: the mode and the gains whose field has the fewest bits; of equals the lower gains,
+ * then the lower mode.
  *   hebap    the row; bins counts its places, at least end
  *   x        the vectors, six components a bin; components counts floats, at least 6 * end
  *   mode     0 to 3
@@ -81,10 +81,10 @@ uint8_t fathrugg_plan_aht_channel(const uint8_t *hebap, size_t bins, size_t star
                                   uint8_t *mode, uint8_t gains[FATHRUGG_GAINS], size_t *count, uint32_t *payload);
 
 /*
- * Writes the field of a plan, 2 + payload bits, from the position on, and moves the position behind it. The other bits of the
- * output are kept. The plan may be any that fits, not only the one of fewest bits: a mode 0 to 3, one gain that the mode has for
- * each bin with a gain of its own (mode 1 has Gk 1 and 2, mode 2 has 1 and 4, mode 3 has 1, 2 and 4), and the payload that they
- * cost.
+ * Writes the field of a plan, 2 + payload bits, from the position on, and moves the position behind it. The other
+ * bits of the output are kept. The plan may be any that fits, not only the one of fewest bits: a mode 0 to 3, one
+ * gain that the mode has for each bin with a gain of its own (mode 1 has Gk 1 and 2, mode 2 has 1 and 4, mode 3 has
+ * 1, 2 and 4), and the payload that they cost.
  *   gains      the first count places; the others are not looked at
  *   hebap, x   as they were planned; bins and components as above
  *   out        len counts its bytes
@@ -96,8 +96,8 @@ uint8_t fathrugg_write_aht_channel(uint8_t mode, const uint8_t gains[FATHRUGG_GA
                                    uint8_t *out, size_t len, size_t *byte, uint32_t *bit);
 
 /*
- * Reads the field of the bins start to end - 1 from the position on. The position goes by value: the next one is the byte
- * byte + (bit + bits) / 8 and the bit (bit + bits) % 8, with bit + bits added in 64 bits.
+ * Reads the field of the bins start to end - 1 from the position on. The position goes by value: the next one is the
+ * byte byte + (bit + bits) / 8 and the bit (bit + bits) % 8, with bit + bits added in 64 bits.
  *   src      len counts its bytes
  *   hebap    the row; bins counts its places, at least end
  *   values   six floats a bin; nvalues counts floats, at least 6 * end
@@ -118,21 +118,21 @@ uint8_t fathrugg_read_aht_channel(const uint8_t *src, size_t len, size_t byte, u
 /* ---- Search and quantiser. */
 
 /*
- * The index of the vector nearest to x in the book of the hebap, the first one of equals; 0 where the hebap is not 1 to 7.
- * Refuses with 5, where the hebap is 1 to 7.
+ * The index of the vector nearest to x in the book of the hebap, the first one of equals; 0 where the hebap is not 1
+ * to 7. Refuses with 5, where the hebap is 1 to 7.
  */
 uint8_t fathrugg_vq_search(uint8_t hebap, const float x[6], size_t *index);
 
 /*
- * The vector at an index of the book of the hebap. The index is counted round the book; where the hebap is not 1 to 7 the vector
- * is six zeros. Never refuses.
+ * The vector at an index of the book of the hebap. The index is counted round the book; where the hebap is not 1 to 7
+ * the vector is six zeros. Never refuses.
  */
 uint8_t fathrugg_vq_lookup(uint8_t hebap, size_t index, float out[6]);
 
 /*
  * The code that is picked for the component x, for hebap 8 to 19 at Gk 1 and 8 to 16 at Gk 2 and 4.
  *   gk     Gk: 1, 2 or 4
- *   large  1 for a large code, which at Gk 2 and 4 stands behind the tag; 0 for a small one. At Gk 1 every code is large
+ *   large  1 for a large code, which at Gk 2 and 4 stands behind the tag; 0 for a small one. At Gk 1 all are large
  *   code   its bits, as an unsigned number
  *   value  the float that a reader gives for it
  * Refuses with 11, 5.
@@ -159,33 +159,36 @@ uint8_t fathrugg_write_u32(uint8_t *out, size_t len, size_t *byte, uint32_t *bit
 /* The hebap of a power density and a mask after its floor, -65536 to 65536. Refuses with 12. */
 uint8_t fathrugg_hebap_from_address(int16_t psd, int32_t mask, uint8_t *hebap);
 
-/* The hebap up to which, not included, fill_gaqbin marks bins with 1: 12 in modes 0 and 1, 17 in modes 2 and 3. Refuses with 12. */
+/*
+ * The hebap up to which, not included, fill_gaqbin marks bins with 1: 12 in modes 0 and 1, 17 in modes 2 and 3.
+ * Refuses with 12.
+ */
 uint8_t fathrugg_endbap_for_gaqmod(uint8_t gaqmod, uint8_t *endbap);
 
 /*
- * Marks the bins of a row: 1 for hebap 8 to endbap - 1, also in mode 0, where no gain is read; -1 from endbap on; else 0. Of
- * bins, the places of hebap, and places, those of gaqbin, the lower number counts.
+ * Marks the bins of a row: 1 for hebap 8 to endbap - 1, also in mode 0, where no gain is read; -1 from endbap on;
+ * else 0. Of bins, the places of hebap, and places, those of gaqbin, the lower number counts.
  *   active  how many bins are marked 1
  * Refuses with 12.
  */
 uint8_t fathrugg_fill_gaqbin(const uint8_t *hebap, size_t bins, uint8_t gaqmod, int8_t *gaqbin, size_t places, size_t *active);
 
 /*
- * How many gain words so many active bins have: none in mode 0, one each in modes 1 and 2, one for each three begun in mode 3.
- * Refuses with 12.
+ * How many gain words so many active bins have: none in mode 0, one each in modes 1 and 2, one for each three begun
+ * in mode 3. Refuses with 12.
  */
 uint8_t fathrugg_gaq_sections(uint8_t gaqmod, size_t active, size_t *sections);
 
 /*
- * Gk of a gain code: 1 for code 0; for a higher one 2 in mode 1, 4 in mode 2, and in mode 3 2 for code 1, else 4; in mode 0
- * always 1. Refuses with 12.
+ * Gk of a gain code: 1 for code 0; for a higher one 2 in mode 1, 4 in mode 2, and in mode 3 2 for code 1, else 4; in
+ * mode 0 always 1. Refuses with 12.
  */
 uint8_t fathrugg_gaq_gain_value(uint8_t code, uint8_t gaqmod, uint8_t *gain);
 
 /*
- * Reads nsections gain words and puts their codes, 0 to 2, to the front of the output, as far as it goes; moves the position. It
- * is laxer than the channel reader: of a group word above 26 the first code is cut to 2. In modes 1 and 2 it stops where the
- * output is full, in mode 3 it reads all words; in mode 0 it reads none.
+ * Reads nsections gain words and puts their codes, 0 to 2, to the front of the output, as far as it goes; moves the
+ * position. It is laxer than the channel reader: of a group word above 26 the first code is cut to 2. In modes 1 and
+ * 2 it stops where the output is full, in mode 3 it reads all words; in mode 0 it reads none.
  *   src    len counts its bytes
  *   out    places counts its bytes
  *   count  how many codes were put there
@@ -195,8 +198,8 @@ uint8_t fathrugg_read_gaq_gains(const uint8_t *src, size_t len, size_t *byte, ui
                                 uint8_t *out, size_t places, size_t *count);
 
 /*
- * Reads the six mantissas of a bin and moves the position. len counts bytes. Gk is that of gain_code where gaqbin is 1, else 1.
- * For hebap 0 to 7 it reads nothing and gives zeros. Refuses with 12, 4, 8.
+ * Reads the six mantissas of a bin and moves the position. len counts bytes. Gk is that of gain_code where gaqbin is
+ * 1, else 1. For hebap 0 to 7 it reads nothing and gives zeros. Refuses with 12, 4, 8.
  */
 uint8_t fathrugg_read_scalar_aht_mantissas(const uint8_t *src, size_t len, size_t *byte, uint32_t *bit, uint8_t hebap,
                                            uint8_t gaqmod, int8_t gaqbin, uint8_t gain_code, float out[6]);

@@ -1,7 +1,7 @@
 /*
- * Each call of include/fathrugg.h once or more, as C sees it: answers worked out by hand from ATSC A/52 Annex E, 3.4 (vectors of the
- * books are also searched for again), and refusals that leave what was lent as it was. Exits with 0 if all is as expected, else with 1
- * and the line on standard error.
+ * Each call of include/fathrugg.h once or more, as C sees it: answers worked out by hand from ATSC A/52 Annex E, 3.4
+ * (vectors of the books are also searched for again), and refusals that leave what was lent as it was. Exits with 0
+ * if all is as expected, else with 1 and the line on standard error.
  */
 #include <stdio.h>
 #include <stdlib.h>
@@ -170,8 +170,8 @@ static void channel(void)
     EXPECT(mode == 1 && count == 1 && gk[0] == 2 && payload == 13 && length == 15);
 }
 
-/* The components of bins of hebap 0 are never looked at: here they are never set, which valgrind tells if they are. Six codes of 3 bits at
-   0.25 take 18 bits at Gk 1; at Gk 2 each is small and takes 2, with the gain's bit 13; at Gk 4 each takes the tag. */
+/* The components of bins of hebap 0 are never looked at: here they are never set, which valgrind tells if they are.
+   Six codes of 3 bits at 0.25 take 18 bits at Gk 1; at Gk 2 each is small and takes 2, with the gain's bit 13; at Gk 4 each takes the tag. */
 static void unset(void)
 {
     enum { BINS = 16 };

@@ -1,5 +1,5 @@
 #!/usr/bin/env python3
-"""The tables of crates/tables, fractions and levels, made from the Rust's text, or compared with it.
+"""The tables of crates/tables, books and levels, made from the Rust's text, or compared with it.
 
   tables.py FOLDER            writes the Rattle constants and the definitions' lists
   tables.py FOLDER --check    compares them number by number; exit status 1 where one differs
@@ -11,7 +11,7 @@ import os, re, struct, sys
 ROOT = os.path.dirname(os.path.dirname(os.path.abspath(__file__)))
 CODE = os.path.join(ROOT, 'crates/tables/src/consts.rt')
 SPEC = os.path.join(ROOT, 'crates/tables/specs/Numbers.antt')
-FRACTIONS = os.path.join(ROOT, 'crates/fractions/src/consts.rt')
+FRACTIONS = os.path.join(ROOT, 'crates/books/src/consts.rt')
 SCALES = os.path.join(ROOT, 'crates/levels/src/consts.rt')
 
 
@@ -85,9 +85,9 @@ def scales(tables):
 
 
 def scales_text(tables):
-    lines = ['// What the codes of a hebap and a gain have in common: a row for each of hebap 8 to 19 at Gk 1, 2 and 4. Made by tools/tables.py.', '',
-             '// a and b (for x >= 0 and for x < 0) as fractions, 1 / 2^(m-1) and 1 / 2^(bits of a large code - 1), all by bit patterns; the bits of small and',
-             '// of large codes; a step of each and both b, the second by its size, in units of 2^-30.', 'pub const SCALES: [u32; 396] = [']
+    lines = ['// What the codes of a hebap and a gain have in common, a row each: hebap 8 to 19 at Gk 1, 2 and 4. By tools/tables.py.', '',
+             '// By bit patterns: a and b (for x >= 0 and for x < 0) as fractions, 1 / 2^(m-1), 1 / 2^(bits of a large code - 1);',
+             '// then the bits of small and of large codes; a step of each and both b, the second by its size, in units of 2^-30.', 'pub const SCALES: [u32; 396] = [']
     return '\n'.join(lines + ['    0x%08x,' % x if i < 5 else '    %d,' % x for row in scales(tables) for i, x in enumerate(row)] + ['];']) + '\n'
 
 

@@ -1,4 +1,5 @@
-//! Links the static library of the proved calls: libfathrugg.a in the folder FATHRUGG_LIB_DIR, else where `rt staticlib fathrugg` puts it.
+//! Links the static library of the proved calls: libfathrugg.a in the folder FATHRUGG_LIB_DIR, else where `rt
+//! staticlib fathrugg` puts it.
 use std::env;
 use std::path::PathBuf;
 

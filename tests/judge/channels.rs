@@ -91,7 +91,8 @@ fn patterned(random: &mut Random, end: usize) -> ours::Outputs {
     }
 }
 
-/// Reads a field with the library and with the Rust's functions; every output is compared whole. Answers what was shown.
+/// Reads a field with the library and with the Rust's functions; every output is compared whole. Answers what was
+/// shown.
 fn read_both(t: &mut Tally, random: &mut Random, src: &[u8], at: usize, row: &[u8], start: usize, end: usize) -> Result<Shown, u8> {
     let mut got = patterned(random, end);
     let mut want = got.clone();
@@ -117,7 +118,8 @@ fn read_both(t: &mut Tally, random: &mut Random, src: &[u8], at: usize, row: &[u
     theirs
 }
 
-/// Channels planned, and fields written with the Rust's plan and with others: every byte of the output, then what is read there.
+/// Channels planned, and fields written with the Rust's plan and with others: every byte of the output, then what is
+/// read there.
 fn written(random: &mut Random, all: &mut Tally) {
     let (mut p, mut w) = (Tally::of("plan_aht_channel, written"), Tally::of("write_aht_channel, written"));
     let (mut r, mut b) = (Tally::of("read_aht_channel, written"), Tally::of("read back: what was written"));

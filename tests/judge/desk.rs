@@ -1,6 +1,6 @@
-//! The desk program against a second reading of document 01, Desk text: a parser written from that section alone, with the Rust's
-//! planner and writer behind it. Its words are the seed, the desk program and how many texts; or `expect`, and it prints what the desk
-//! has to print for the text on standard input.
+//! The desk program against a second reading of document 01, Desk text: a parser written from that section alone,
+//! with the Rust's planner and writer behind it. Its words are the seed, the desk program and how many texts; or
+//! `expect`, and it prints what the desk has to print for the text on standard input.
 #![allow(dead_code)]
 mod audblk {
     pub const N_COEFFS: usize = 256;

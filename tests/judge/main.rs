@@ -1,8 +1,10 @@
-//! Compares the proved calls with the Rust that they were ported from: results, refusals, positions and every lent byte.
-//! The files of the Rust stand beside this one under eac3/, unchanged. Its word is the seed; a second word, `scale` or `few`, makes it long or short.
+//! Compares the proved calls with the Rust that they were ported from: results, refusals, positions and every lent
+//! byte. The files of the Rust stand beside this one under eac3/, unchanged. Its word is the seed; a second word,
+//! `scale` or `few`, makes it long or short.
 #![allow(dead_code)]
 
-/// What ahtenc.rs takes from audblk.rs, which rests on files that are not at hand, and from encoder.rs, which is one of these; none of it is called.
+/// What ahtenc.rs takes from audblk.rs, which rests on files that are not at hand, and from encoder.rs, which is one
+/// of these; none of it is called.
 mod audblk {
     pub const N_COEFFS: usize = 256;
 }
@@ -36,7 +38,8 @@ fn seed() -> u64 {
     std::env::args().nth(1).and_then(|s| s.parse().ok()).unwrap_or(1)
 }
 
-/// How often a case is drawn: as usual; with the second word `scale` at scale; with `few`, for a slow machine under this program, a fiftieth.
+/// How often a case is drawn: as usual; with the second word `scale` at scale; with `few`, for a slow machine under
+/// this program, a fiftieth.
 #[cfg(not(record))]
 pub fn times(usual: usize, at_scale: usize) -> usize {
     match std::env::args().nth(2).as_deref() {
@@ -46,7 +49,8 @@ pub fn times(usual: usize, at_scale: usize) -> usize {
     }
 }
 
-/// Built with --cfg record it needs no proved library: it writes the Rust's answers to the two files that its other words name.
+/// Built with --cfg record it needs no proved library: it writes the Rust's answers to the two files that its other
+/// words name.
 #[cfg(record)]
 fn main() {
     let file = |n| std::env::args().nth(n).expect("two files to write");

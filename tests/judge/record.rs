@@ -1,22 +1,23 @@
-//! The recorded answers that crates/replay and crates/replay_channels replay: calls with what the Rust answers, 256 bytes each, least
-//! significant byte first. Their files stdin were made by `tests/compare ../shared/docs/src 20261115 record`. read_u32, read_first and
-//! write_u32 are the stand-in's answers, read_aht_channel's those of the Rust's reading functions in the order of document 01 (shown.rs);
-//! the numbers of refusals are document 01's.
+//! The recorded answers that crates/replay and crates/replay_channels replay: calls with what the Rust answers, 256
+//! bytes each, least significant byte first. Their files stdin were made by `tests/compare ../shared/docs/src
+//! 20261115 record`. read_u32, read_first and write_u32 are the stand-in's answers, read_aht_channel's those of the
+//! Rust's reading functions in the order of document 01 (shown.rs); the numbers of refusals are document 01's.
 //!
-//! 0 function, 1 refusal, 2 to 5 small arguments, 6 length of the input, 7 places of the output, 8 position's byte (8 bytes), 16 its
-//! bit (4), 20 a number of 32 bits, 24 one of 64, 32 the input (24), 56 the output before (24), 80 the output after (24), 104 the
-//! value, 112 and 120 the position after, 128 vectors (120). A refused call has its value 0 and its position and output as they were,
-//! a refused plan or bin is zeros.
+//! 0 function, 1 refusal, 2 to 5 small arguments, 6 length of the input, 7 places of the output, 8 position's byte (8
+//! bytes), 16 its bit (4), 20 a number of 32 bits, 24 one of 64, 32 the input (24), 56 the output before (24), 80 the
+//! output after (24), 104 the value, 112 and 120 the position after, 128 vectors (120). A refused call has its value
+//! 0 and its position and output as they were, a refused plan or bin is zeros.
 //!
-//! write_aht_channel: start, end, mode and count are the small arguments, the payload the number of 32 bits, the gains the eight bytes
-//! from 24 on, the row the input; the output has 24 places, and 7 tells how many numbers the vectors have.
-//! read_aht_channel: start, end and, after the call, mode and count are the small arguments; the row, of at most two bins, stands in the
-//! output's place, 7 tells how many; after the call the gains stand at 80, values at 128 (48), exact values at 176 (48) and indices at
-//! 224 (4), each byte 0x42 before it; the value is the bits of the field.
-//! plan_write_read: the Rust's plan, its field and what its reading functions show of that. start, mode and count are the first, third
-//! and fourth small argument, end stands at 112 (8), the payload is the number of 32 bits; the row, of at most two bins, stands at 24, 6
-//! tells how many; the vectors stand at 32 (48), 7 tells how many numbers; the output's 24 places, each 0x42 before the call, stand at 80;
-//! the gains stand at 228 (24), the rest as for read_aht_channel.
+//! write_aht_channel: start, end, mode and count are the small arguments, the payload the number of 32 bits, the
+//! gains the eight bytes from 24 on, the row the input; the output has 24 places, and 7 tells how many numbers the
+//! vectors have. read_aht_channel: start, end and, after the call, mode and count are the small arguments; the row,
+//! of at most two bins, stands in the output's place, 7 tells how many; after the call the gains stand at 80, values
+//! at 128 (48), exact values at 176 (48) and indices at 224 (4), each byte 0x42 before it; the value is the bits of
+//! the field. plan_write_read: the Rust's plan, its field and what its reading functions show of that. start, mode
+//! and count are the first, third and fourth small argument, end stands at 112 (8), the payload is the number of 32
+//! bits; the row, of at most two bins, stands at 24, 6 tells how many; the vectors stand at 32 (48), 7 tells how many
+//! numbers; the output's 24 places, each 0x42 before the call, stand at 80; the gains stand at 228 (24), the rest as
+//! for read_aht_channel.
 use crate::eac3::{aht, ahtenc};
 use crate::random::Random;
 use crate::shown;
@@ -262,7 +263,8 @@ fn one(f: u8, i: usize, random: &mut Random) -> Record {
             let (bits, err, values) = bin_of(hebap, gk, &x);
             r.arg32(err.to_bits()).floats(&values).answer(0, bits as usize, 0)
         }
-        // plan_aht_channel: start at the position's byte, end as the number of 64 bits; the mode is the fourth argument, the count the byte after
+        // plan_aht_channel: start at the position's byte, end as the number of 64 bits; the mode is the fourth
+        // argument, the count the byte after
         14 => {
             let bins = if i % 10 == 0 { 0 } else { 1 + random.below(5) };
             let (mut row, mut x) = channel(random, bins);
@@ -450,7 +452,8 @@ fn one(f: u8, i: usize, random: &mut Random) -> Record {
             r.0[228..228 + gains.len()].copy_from_slice(&gains);
             r.args(&[start as u8, 0, s.mode, gains.len() as u8]).answer(0, s.bits, 8 * end)
         }
-        // read_scalar_aht_mantissas: first every hebap and gain, with codes chosen so that half of them are behind the tag
+        // read_scalar_aht_mantissas: first every hebap and gain, with codes chosen so that half of them are behind
+        // the tag
         _ if i < 216 => {
             let (hebap, gain) = (8 + (i % 36 / 3) as u8, i % 3);
             let m = u32::from(aht::HEBAP_MANT_BITS[hebap as usize]);

@@ -1,6 +1,6 @@
-//! What the Rust makes of a field: its own reading functions in the order of document 01 (Channel reader), with the strictness that
-//! document 01 adds (words above 26 and missing codes), and the exact values by document 01's formulas from the codes that stand in
-//! the field. The numbers a and b are taken from the Rust's gaq_remap.
+//! What the Rust makes of a field: its own reading functions in the order of document 01 (Channel reader), with the
+//! strictness that document 01 adds (words above 26 and missing codes), and the exact values by document 01's
+//! formulas from the codes that stand in the field. The numbers a and b are taken from the Rust's gaq_remap.
 use crate::eac3::aht;
 use oxideav_core::bits::BitReader;
 

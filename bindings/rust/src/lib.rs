@@ -1,11 +1,13 @@
-//! The channel coder of the adaptive hybrid transform (AHT) of E-AC-3, as safe functions over the static library of proved calls.
+//! The channel coder of the adaptive hybrid transform (AHT) of E-AC-3, as safe functions over the static library of
+//! proved calls.
 //!
-//! A **bin** is a frequency place, 0 to 255; its **hebap**, 0 to 19, says how it is coded, and a **row** has a hebap for each bin, from
-//! bin 0 on. The **vectors** have six components for each bin, from bin 0 on, one behind the other: those of the bin k are the places
-//! `6 * k` to `6 * k + 5`. A call works on the bins `start` to `end - 1`.
+//! A **bin** is a frequency place, 0 to 255; its **hebap**, 0 to 19, says how it is coded, and a **row** has a hebap
+//! for each bin, from bin 0 on. The **vectors** have six components for each bin, from bin 0 on, one behind the
+//! other: those of the bin k are the places `6 * k` to `6 * k + 5`. A call works on the bins `start` to `end - 1`.
 //!
-//! [`plan`] finds the mode and the gains of fewest bits, [`write()`] puts the field of a plan into an output, with exactly the bits that the
-//! plan announces, and [`read`] reads a field back. The small calls under them, such as [`search`], [`quantise_bin`] and [`read_u32`], are there too.
+//! [`plan`] finds the mode and the gains of fewest bits, [`write()`] puts the field of a plan into an output, with
+//! exactly the bits that the plan announces, and [`read`] reads a field back. The small calls under them, such as
+//! [`search`], [`quantise_bin`] and [`read_u32`], are there too.
 //!
 //! ```
 //! use fathrugg::{plan, read, write, Plan, Position};
@@ -32,11 +34,11 @@
 //! # Ok::<(), fathrugg::Refusal>(())
 //! ```
 //!
-//! A call that refuses answers a [`Refusal`], and leaves every lent buffer and position as it was. Of causes that hold together it answers the
-//! first in the order that its description has them in.
+//! A call that refuses answers a [`Refusal`], and leaves every lent buffer and position as it was. Of causes that
+//! hold together it answers the first in the order that its description has them in.
 //!
-//! What is proved is the library: that its functions meet their contracts for every input and stay inside their buffers. These
-//! declarations of them are not.
+//! What is proved is the library: that its functions meet their contracts for every input and stay inside their
+//! buffers. These declarations of them are not.
 #![warn(missing_docs)]
 
 use std::error::Error;
@@ -45,8 +47,9 @@ use std::fmt;
 /// The places for gains, one for each bin that there may be.
 const PLACES: usize = 256;
 
-// As crates/fathrugg/src/lib.rt has them: a slice is a pointer and its length, an array a pointer alone. Each answers the number of its
-// refusal, 0 for none, asks nothing of its arguments but that the pointers are good, and keeps none of them.
+// As crates/fathrugg/src/lib.rt has them: a slice is a pointer and its length, an array a pointer alone. Each answers
+// the number of its refusal, 0 for none, asks nothing of its arguments but that the pointers are good, and keeps none
+// of them.
 extern "C" {
     fn fathrugg_plan_aht_channel(
         row: *const u8,
@@ -240,8 +243,9 @@ pub struct Plan {
 }
 
 impl Plan {
-    /// A plan of any values; whether it fits a row and its vectors is tested by [`write()`]. `gains` has Gk (1, 2 or 4) for each bin that has
-    /// a gain of its own in the mode, in bin order. Of more than 256 gains, which fit no row, only the first 256 are kept, and the count.
+    /// A plan of any values; whether it fits a row and its vectors is tested by [`write()`]. `gains` has Gk (1, 2 or
+    /// 4) for each bin that has a gain of its own in the mode, in bin order. Of more than 256 gains, which fit no
+    /// row, only the first 256 are kept, and the count.
     pub fn new(mode: u8, gains: &[u8], payload: u32) -> Plan {
         let mut places = [0; PLACES];
         let kept = gains.len().min(PLACES);
@@ -359,7 +363,8 @@ pub fn plan(row: &[u8], start: usize, end: usize, vectors: &[f32]) -> Result<Pla
     Ok(p)
 }
 
-/// Writes the field of a plan from the position on, and moves the position behind it; every other bit of the output is kept.
+/// Writes the field of a plan from the position on, and moves the position behind it; every other bit of the output
+/// is kept.
 ///
 /// The plan may be any that fits the row and the vectors, best or not.
 ///
@@ -396,8 +401,9 @@ pub fn write(
 
 /// Reads the field of the bins `start` to `end - 1` from the position on.
 ///
-/// For the bin k six values go to the places `6 * k` to `6 * k + 5` of `values`, the same values in units of 2^-30, exactly, to these places
-/// of `exact`, and the index of a book bin, 0 for others, to the place k of `indices`. Every other place is kept.
+/// For the bin k six values go to the places `6 * k` to `6 * k + 5` of `values`, the same values in units of 2^-30,
+/// exactly, to these places of `exact`, and the index of a book bin, 0 for others, to the place k of `indices`. Every
+/// other place is kept.
 ///
 /// Refusals 1 to 4, then 8, 9 and 10 as met.
 #[allow(clippy::too_many_arguments)]
@@ -441,8 +447,8 @@ pub fn read(
     Ok(c)
 }
 
-/// The index of the vector nearest to `x` in the book of the hebap, the lowest of equals. Where there is no book, outside hebap 1 to 7, it
-/// is 0.
+/// The index of the vector nearest to `x` in the book of the hebap, the lowest of equals. Where there is no book,
+/// outside hebap 1 to 7, it is 0.
 ///
 /// Refusal 5, where there is a book.
 pub fn search(hebap: u8, x: &[f32; 6]) -> Result<usize, Refusal> {
@@ -463,7 +469,8 @@ pub fn quantise_scalar(hebap: u8, gk: u8, x: f32) -> Result<QuantisedScalar, Ref
     Ok(QuantisedScalar { code, value })
 }
 
-/// The six values of a bin at a hebap of 8 to 19 and a gain, Gk 1, or 2 and 4 up to hebap 16, with their bits and errors.
+/// The six values of a bin at a hebap of 8 to 19 and a gain, Gk 1, or 2 and 4 up to hebap 16, with their bits and
+/// errors.
 ///
 /// Refusals 11, then 5.
 pub fn quantise_bin(hebap: u8, gk: u8, x: &[f32; 6]) -> Result<QuantisedBin, Refusal> {
@@ -473,7 +480,8 @@ pub fn quantise_bin(hebap: u8, gk: u8, x: &[f32; 6]) -> Result<QuantisedBin, Ref
     Ok(b)
 }
 
-/// The vector at an index of the book of the hebap, counted round the book; six zeros where there is no book, outside hebap 1 to 7.
+/// The vector at an index of the book of the hebap, counted round the book; six zeros where there is no book, outside
+/// hebap 1 to 7.
 pub fn lookup(hebap: u8, index: usize) -> [f32; 6] {
     let mut out = [0.0; 6];
     // SAFETY: `out` has its six places.
@@ -492,7 +500,8 @@ pub fn read_u32(src: &[u8], position: &mut Position, n: u32) -> Result<u32, Refu
     Ok(value)
 }
 
-/// Puts the low `n` bits of `v`, 0 to 32 of them, at the position, and moves it behind them; every other bit of the output is kept.
+/// Puts the low `n` bits of `v`, 0 to 32 of them, at the position, and moves it behind them; every other bit of the
+/// output is kept.
 ///
 /// Refusals 12, then 7.
 pub fn write_u32(out: &mut [u8], position: &mut Position, v: u32, n: u32) -> Result<(), Refusal> {
@@ -520,8 +529,9 @@ pub fn endbap_for_gaqmod(gaqmod: u8) -> Result<u8, Refusal> {
     Ok(endbap)
 }
 
-/// Marks the bins of a row: 1 for hebap 8 up to the mode's [`endbap_for_gaqmod`], not included (also in mode 0, where no gain is read), -1
-/// from there on, else 0. Of the two lengths the lower counts. How many bins are marked with 1 is the answer.
+/// Marks the bins of a row: 1 for hebap 8 up to the mode's [`endbap_for_gaqmod`], not included (also in mode 0, where
+/// no gain is read), -1 from there on, else 0. Of the two lengths the lower counts. How many bins are marked with 1
+/// is the answer.
 ///
 /// Refusal 12.
 pub fn fill_gaqbin(row: &[u8], gaqmod: u8, gaqbin: &mut [i8]) -> Result<usize, Refusal> {
@@ -531,7 +541,8 @@ pub fn fill_gaqbin(row: &[u8], gaqmod: u8, gaqbin: &mut [i8]) -> Result<usize, R
     Ok(active)
 }
 
-/// How many gain words so many active bins have: none in mode 0, one each in modes 1 and 2, one for each three begun in mode 3.
+/// How many gain words so many active bins have: none in mode 0, one each in modes 1 and 2, one for each three begun
+/// in mode 3.
 ///
 /// Refusal 12.
 pub fn gaq_sections(gaqmod: u8, active: usize) -> Result<usize, Refusal> {
@@ -541,7 +552,8 @@ pub fn gaq_sections(gaqmod: u8, active: usize) -> Result<usize, Refusal> {
     Ok(sections)
 }
 
-/// Gk of a gain code: 1 for code 0; for a higher one 2 in mode 1, 4 in mode 2, and in mode 3 2 for code 1, else 4; in mode 0 always 1.
+/// Gk of a gain code: 1 for code 0; for a higher one 2 in mode 1, 4 in mode 2, and in mode 3 2 for code 1, else 4; in
+/// mode 0 always 1.
 ///
 /// Refusal 12.
 pub fn gaq_gain_value(code: u8, gaqmod: u8) -> Result<u8, Refusal> {
@@ -551,8 +563,9 @@ pub fn gaq_gain_value(code: u8, gaqmod: u8) -> Result<u8, Refusal> {
     Ok(gain)
 }
 
-/// Reads `nsections` gain words and puts their codes, 0 to 2, to the front of the output, as far as it goes; moves the position. It is laxer
-/// than [`read`]: of a group word above 26 the first code is cut to 2. How many codes were put there is the answer.
+/// Reads `nsections` gain words and puts their codes, 0 to 2, to the front of the output, as far as it goes; moves
+/// the position. It is laxer than [`read`]: of a group word above 26 the first code is cut to 2. How many codes were
+/// put there is the answer.
 ///
 /// Refusals 12, then 8.
 pub fn read_gaq_gains(src: &[u8], position: &mut Position, gaqmod: u8, nsections: usize, out: &mut [u8]) -> Result<usize, Refusal> {
@@ -574,8 +587,8 @@ pub fn read_gaq_gains(src: &[u8], position: &mut Position, gaqmod: u8, nsections
     Ok(count)
 }
 
-/// Reads the six mantissas of a bin and moves the position. Gk is that of `gain_code` where `gaqbin` is 1, else 1. For hebap 0 to 7 it reads
-/// nothing and gives zeros.
+/// Reads the six mantissas of a bin and moves the position. Gk is that of `gain_code` where `gaqbin` is 1, else 1.
+/// For hebap 0 to 7 it reads nothing and gives zeros.
 ///
 /// Refusals 12, 4, then 8.
 pub fn read_scalar_aht_mantissas(

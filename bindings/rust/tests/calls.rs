@@ -78,7 +78,8 @@ fn has_gain(mode: u8, hebap: u8) -> bool {
     }
 }
 
-/// Writes the field of a plan at a bit position of a patterned buffer, reads it back and tests everything that was lent.
+/// Writes the field of a plan at a bit position of a patterned buffer, reads it back and tests everything that was
+/// lent.
 fn written_and_read(p: &Plan, row: &[u8], start: usize, end: usize, x: &[f32], at: usize) {
     let total = p.total() as usize;
     let before = patterned((at + total).div_ceil(8) + 1);

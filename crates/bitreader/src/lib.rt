@@ -1,5 +1,6 @@
-// A reader that keeps the bytes and the position of the next bit. The borrow checker covers no function over such a struct,
-// so each is proved by hand, and leaves the work to bits. Callers with a plain slice use read_first, and need no proof by hand.
+// A reader that keeps the bytes and the position of the next bit. The borrow checker covers no function over such a
+// struct, so each is proved by hand, and leaves the work to bits. Callers with a plain slice use read_first, and need
+// no proof by hand.
 ghost use mathlib.Core.Path.{_≡_};
 ghost use Rattle.bits.specs.Bits.{bitAt, readU32};
 use bits::BitPos;

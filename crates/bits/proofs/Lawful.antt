@@ -12,7 +12,8 @@ use lib.Dec.{leb, T}
 use borrow.Author.Tests.{le-leb, leb-true}
 use Rattle.bits.specs.Bits.{bitsN, numberOf, splice}
 use Rattle.bits.proofs.Laws.{length-bitsN, number-bits, bits-number, numberOf-lt}
-use Rattle.bits.specs.Format.{Got, got, refused, andThen, Format, number, only, both, tested, shown, each, each-Ok, each-enc, each-dec, resume}
+use Rattle.bits.specs.Format.{Got, got, refused, andThen, Format, number, only, both, tested, shown, each, each-Ok, each-enc, each-dec}
+use Rattle.bits.specs.Work.{resume}
 
 T-true : (b : Bool) → T b → b ≡ true
 T-true true h = refl

@@ -12,11 +12,12 @@ use lib.Arith.{digits-lt}
 use lib.Seq.{split-at, take-add, length-take-le, take-append-seam, drop-append-seam, drop-append-add, set-split, drop-at, take-at, drop-drop, drop-nil, drop-cons, take-take}
 use lib.Dec.{leb, eqb}
 use borrow.Author.Tests.{le-leb, lt-leb, leb-true, leb-false}
-use Rattle.bits.specs.Bits.{bitOf, digit, bitsN, numberOf, bitsOf, splice, byteWith, bytesOf, bytesWith, posOf, readU32, writeU32, written}
+use Rattle.bits.specs.Bits.{bitOf, digit, bitsN, numberOf, bitsOf, splice, bytesOf, bytesWith, posOf, readU32, writeU32, written}
+use Rattle.bits.specs.Work.{byteWith}
 use Rattle.bits.specs.declared.BitRead.{BitRead}
 use Rattle.bits.specs.declared.BitRead.the-variants.{Number}
-use Rattle.bits.specs.declared.BitWrite.{BitWrite}
-use Rattle.bits.specs.declared.BitWrite.the-variants.{Done}
+use Rattle.bits.specs.declared.BitMove.{BitMove}
+use Rattle.bits.specs.declared.BitMove.the-variants.{Done}
 
 digit-lt : (b : Bool) → digit b < 2
 digit-lt true = omega arith
@@ -245,11 +246,11 @@ pub read-good : (s : List ℕ) (at n : ℕ) → n ≤ 32 → at + n ≤ 8 * leng
 unfolding readU32
 read-good s at n h k = simp (le-leb _ _ h, le-leb _ _ k)
 
-pub write-wide : (s : List ℕ) (at v n : ℕ) → 32 < n → (writeU32 s at n ≡ BitWrite.Refused 12) × (written s at v n ≡ s)
+pub write-wide : (s : List ℕ) (at v n : ℕ) → 32 < n → (writeU32 s at n ≡ BitMove.Refused 12) × (written s at v n ≡ s)
 unfolding writeU32 written
 write-wide s at v n h = (simp (lt-leb _ _ h), simp (lt-leb _ _ h))
 
-pub write-short : (s : List ℕ) (at v n : ℕ) → n ≤ 32 → 8 * length s < at + n → (writeU32 s at n ≡ BitWrite.Refused 7) × (written s at v n ≡ s)
+pub write-short : (s : List ℕ) (at v n : ℕ) → n ≤ 32 → 8 * length s < at + n → (writeU32 s at n ≡ BitMove.Refused 7) × (written s at v n ≡ s)
 unfolding writeU32 written
 write-short s at v n h k = (simp (le-leb _ _ h, lt-leb _ _ k), simp (le-leb _ _ h, lt-leb _ _ k))
 

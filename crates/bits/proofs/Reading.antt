@@ -5,15 +5,16 @@ use mathlib.Core.List.{List}
 use mathlib.Core.Bool.{Bool, true, false}
 use mathlib.Core.Logic.{_⊎_, inl, inr}
 use native.Mathlib.Omega.{arith}
-use lib.ListN.{length, take, drop, length-drop}
-use lib.Seq.{drop-drop}
+use lib.ListN.{length, take, drop, length-drop, length-append}
+use lib.Seq.{drop-drop, drop-append-seam}
 use lib.Dec.{leb}
 use borrow.Author.Tests.{le-leb, lt-leb, leb-true, leb-false}
 use Rattle.bits.specs.Bits.{bitsOf, numberOf, bitAt, posOf, readU32, Inside}
-use Rattle.bits.specs.Format.{number, numberIn, got, refused}
+use Rattle.bits.specs.Format.{Format, number, numberIn, got, refused}
 use Rattle.bits.specs.declared.BitPos.{BitPos}
 use Rattle.bits.specs.declared.BitRead.{BitRead}
 use Rattle.bits.specs.declared.BitRead.the-variants.{Number}
+use Rattle.bits.proofs.Lawful.{Lawful}
 use Rattle.bits.proofs.Laws.{length-bitsOf, read-good, read-short}
 
 pub at-pos : (k : ℕ) → bitAt (posOf k) ≡ k
@@ -84,3 +85,16 @@ module _ (s : List ℕ) (at n : ℕ) (few : n ≤ 32) where
   -- they are not
   pub number-missing : 8 * length s < at + n → 0 < n ⊎ at ≤ 8 * length s → number n .dec (drop at (bitsOf s)) ≡ refused 8
   number-missing f o = number-short f o ∙ ap (numberIn (bitsOf s)) (read-short s at n few f)
+
+-- the position behind what was read, and the bits from there on
+pub next-is : {A : Type 0} (F : Format A) → Lawful F → (s : List ℕ) (at : ℕ) (a : A) (rest : List Bool) → at ≤ 8 * length s → F .dec (drop at (bitsOf s)) ≡ got a rest
+    → let q = posOf (8 * length s - length rest) in Inside (8 * length s) q × (rest ≡ drop (bitAt q) (bitsOf s))
+next-is F f s at a rest h e =
+    let o = f .sole (drop at (bitsOf s)) rest a e .0 in
+    let l : length (drop at (bitsOf s)) ≡ length (F .enc a) + length rest = ap length o ∙ length-append (F .enc a) rest in
+    let d : length (drop at (bitsOf s)) ≡ 8 * length s - at = length-drop at (bitsOf s) ∙ ap (λ (k : ℕ). k - at) (length-bitsOf s) in
+    let k : at + length (F .enc a) ≡ 8 * length s - length rest = omega arith in
+    let r : drop (length (F .enc a)) (drop at (bitsOf s)) ≡ rest = ap (drop (length (F .enc a))) o ∙ drop-append-seam (F .enc a) rest in (
+      (omega arith, omega arith),
+      sym r ∙ drop-drop (length (F .enc a)) at (bitsOf s) ∙ ap (λ (t : ℕ). drop t (bitsOf s)) (k ∙ sym (at-pos (8 * length s - length rest))),
+    )

@@ -1,12 +1,18 @@
 -- How many bits a format writes of a value.
 use Prim.Native.Nat.{ℕ, zero, suc, _+_, _*_}
-use mathlib.Core.Path.{_≡_, refl, sym, _∙_}
+use mathlib.Core.Path.{_≡_, refl, sym}
 use mathlib.Core.List.{List, [], _∷_}
 use mathlib.Core.Bool.{Bool}
 use native.Mathlib.Nat.{zero-mul, suc-mul, add-comm}
 use lib.ListN.{length, length-append, replicate}
 use Rattle.bits.proofs.Laws.{length-bitsN}
-use Rattle.bits.specs.Format.{Format, number, only, both, tested, shown, each, each-Ok, each-enc, sizes}
+use Rattle.bits.specs.Format.{Format, number, only, both, tested, shown, each, each-Ok, each-enc}
+
+-- the sum of the sizes of a list's elements
+abbrev pub sizes : {R A : Type 0} → (R → A → ℕ) → List R → List A → ℕ
+sizes size [] xs = 0
+sizes size (r ∷ rs) [] = 0
+sizes size (r ∷ rs) (x ∷ xs) = size r x + sizes size rs xs
 
 abbrev pub Sized : {A : Type 0} → Format A → (A → ℕ) → Type 0
 Sized {A} F size = (a : A) → F .Ok a → length (F .enc a) ≡ size a
@@ -34,9 +40,6 @@ module _ {R A : Type 0} (F : R → Format A) (size : R → A → ℕ) where
   each-sized f [] xs o = refl
   each-sized f (r ∷ rs) [] o = absurd o
   each-sized f (r ∷ rs) (x ∷ xs) o = rw (length-append, f r x (o .0), each-sized f rs xs (o .1))
-
-pub sized-as : {A : Type 0} (F : Format A) (size size′ : A → ℕ) → Sized F size → ((a : A) → F .Ok a → size a ≡ size′ a) → Sized F size′
-sized-as F size size′ f e a o = f a o ∙ e a o
 
 -- n values of c bits each
 pub sizes-same : {A : Type 0} (F : ℕ → Format A) (c n : ℕ) (xs : List A) → each F (replicate n 0) .Ok xs → sizes (λ (r : ℕ) x. c) (replicate n 0) xs ≡ n * c

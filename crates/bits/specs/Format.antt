@@ -1,12 +1,14 @@
 -- Formats: how values stand as bits, and what is read of bits.
-use Prim.Native.Nat.{ℕ, _+_, _<_, _^_}
+use Prim.Native.Nat.{ℕ, _-_, _<_, _^_}
 use mathlib.Core.Path.{_≡_}
 use mathlib.Core.List.{List, [], _∷_, _++_}
 use mathlib.Core.Bool.{Bool, cond}
 use lib.ListN.{length, take, drop}
 use lib.Dec.{leb, T}
-use Rattle.bits.specs.Bits.{bitsN, numberOf, bitAt}
+use Rattle.bits.specs.Bits.{bitsN, numberOf, bitAt, posOf}
+use Rattle.bits.specs.declared.BitMove.{BitMove}
 use Rattle.bits.specs.declared.BitRead.{BitRead}
+use Rattle.answers.specs.Causes as cause
 
 -- what reading finds: a value and the bits after it, or the number of a refusal
 pub data Got (A : Type 0) : Type 0 where
@@ -29,7 +31,7 @@ number n =
     record {
       Ok = λ v. v < 2 ^ n;
       enc = λ v. bitsN n v;
-      dec = λ bs. cond (leb n (length bs)) (got (numberOf (take n bs)) (drop n bs)) (refused 8);
+      dec = λ bs. cond (leb n (length bs)) (got (numberOf (take n bs)) (drop n bs)) (refused cause.inputEnds);
     }
 
 -- what an answer of read_u32 shows of the bits bs: the number and the bits behind it, or the refusal
@@ -88,18 +90,13 @@ module _ {R A : Type 0} (F : R → Format A) where
   abbrev pub each : List R → Format (List A)
   each rs = record { Ok = each-Ok rs; enc = each-enc rs; dec = each-dec rs }
 
--- what each element of a list shows, and the sum of their sizes
+-- what each element of a list shows
 abbrev pub shows : {R A B : Type 0} → (R → A → B) → List R → List A → List B
 shows s [] xs = []
 shows s (r ∷ rs) [] = []
 shows s (r ∷ rs) (x ∷ xs) = s r x ∷ shows s rs xs
 
-abbrev pub sizes : {R A : Type 0} → (R → A → ℕ) → List R → List A → ℕ
-sizes size [] xs = 0
-sizes size (r ∷ rs) [] = 0
-sizes size (r ∷ rs) (x ∷ xs) = size r x + sizes size rs xs
-
--- what is read after xs, with xs before it: how a loop that has read xs goes on
-abbrev pub resume : {A : Type 0} → List A → Got (List A) → Got (List A)
-resume xs (got ys rest) = got (xs ++ ys) rest
-resume xs (refused n) = refused n
+-- the answer of a call that moves a position over what is read of n bits: the position behind it, or the refusal
+abbrev pub moveAnswer : {A : Type 0} → ℕ → Got A → BitMove
+moveAnswer n (got a rest) = BitMove.Done (posOf (n - length rest))
+moveAnswer n (refused k) = BitMove.Refused k

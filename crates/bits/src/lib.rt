@@ -1,9 +1,10 @@
-// Bits of bytes, the first the heaviest: a position by value, numbers read there and put there.
+// Bits of bytes, most significant first: a position by value, numbers read there and written there.
 ghost use mathlib.Core.Path.{_≡_};
 ghost use Prim.Native.Nat.{_+_, _*_, _<_, _≤_, _^_};
 ghost use lib.Dec.{leb};
 ghost use lib.ListN.{length, take, drop, getD};
-ghost use Rattle.bits.specs.Bits.{bitsOf, bitsN, numberOf, splice, byteWith, bitAt, posOf, readU32, writeU32, written};
+ghost use Rattle.bits.specs.Bits.{bitsOf, bitsN, numberOf, splice, bitAt, posOf, readU32, writeU32, written};
+ghost use Rattle.bits.specs.Work.{byteWith};
 
 // The bit 8 * byte + bit.
 pub struct BitPos {
@@ -17,13 +18,14 @@ pub enum BitRead {
     Refused(u8),
 }
 
-// What write_u32 answers: the advanced position, or the number of the refusal.
-pub enum BitWrite {
+// What write_u32 and readers into lent buffers answer: the advanced position, or the number of the refusal.
+pub enum BitMove {
     Done(BitPos),
     Refused(u8),
 }
 
-fn pow2(k: u32) -> u32
+// 2^k: products and modulo in place of masks, since the proofs are about numbers.
+pub fn pow2(k: u32) -> u32
     requires { ⌜ k < 32 ⌝ }
     ensures { λ r. ⌜ r ≡ 2 ^ k ⌝ }
 {
@@ -72,7 +74,7 @@ fn byte_at(src: &[u8], q: usize) -> u32
     wide(src[q])
 }
 
-// Four bytes as one number, the first the heaviest.
+// Four bytes as one big-endian number.
 fn four_bytes(src: &[u8], q: usize) -> u32
     requires { ⌜ q + 4 ≤ length (now src) ⌝ }
     ensures { λ w. ⌜ w < 2 ^ 32 ⌝ }
@@ -107,7 +109,7 @@ fn number_at(src: &[u8], q: usize, r: u32, n: u32) -> u32
     by_bytes(src, q, r, n)
 }
 
-// The byte x with c bits, those of w, put at its bit r.
+// The byte x with the c bits of w written at its bit r.
 fn patched(x: u8, r: u32, c: u32, w: u32) -> u8
     requires { ⌜ (r + c ≤ 8) × (w < 2 ^ c) ⌝ }
     ensures { λ y. ⌜ y ≡ byteWith x r c w ⌝ }
@@ -117,7 +119,7 @@ fn patched(x: u8, r: u32, c: u32, w: u32) -> u8
     (((o >> (c + k)) * pow2(c) + w) * pow2(k) + o % pow2(k)) as u8
 }
 
-// The low n bits of v are put from the bit r of the byte q on, a byte at a time.
+// Writes the low n bits of v from the bit r of the byte q on, a byte at a time.
 fn put_bits(out: &mut [u8], q: usize, r: u32, v: u32, n: u32)
     requires { ⌜ (n ≤ 32) × (r < 8) × (8 * q + r + n ≤ 8 * length (now out)) ⌝ }
     ensures { λ u. ⌜ bitsOf (now (out .exit)) ≡ splice (bitsOf (now (out .entry))) (8 * q + r) (bitsN n v) ⌝ }
@@ -136,8 +138,8 @@ fn put_bits(out: &mut [u8], q: usize, r: u32, v: u32, n: u32)
 }
 
 impl BitPos {
-    // Whether count numbers of width bits stand in len bytes from this position on. Nothing here can wrap: 7 * (2^64 / 8) fits.
-    pub fn holds(self, len: usize, width: u32, count: usize) -> bool
+    // The bounds check: count numbers of width bits stand in len bytes from here on. 7 * (2^64 / 8) does not wrap.
+    pub fn has_bits(self, len: usize, width: u32, count: usize) -> bool
         requires { ⌜ width ≤ 7 ⌝ }
         requires { ⌜ len < 2 ^ 63 ⌝ }
         ensures { λ r. ⌜ r ≡ leb (bitAt self + width * count) (8 * len) ⌝ }
@@ -156,8 +158,8 @@ impl BitPos {
         whole + (part + 7) / 8 <= len - q
     }
 
-    // The position behind count numbers of width bits, of which holds has said that they are there.
-    pub fn after(self, width: u32, count: usize) -> BitPos
+    // The position behind count numbers of width bits, bounds-checked before (has_bits).
+    pub fn advance(self, width: u32, count: usize) -> BitPos
         requires { ⌜ width ≤ 7 ⌝ }
         requires { ⌜ bitAt self + width * count < 2 ^ 66 ⌝ }
         ensures { λ r. ⌜ r ≡ posOf (bitAt self + width * count) ⌝ }
@@ -171,8 +173,8 @@ impl BitPos {
         }
     }
 
-    // The number that the next n bits show, of which holds has said that they are there.
-    pub fn number(self, src: &[u8], n: u32) -> u32
+    // The number that the next n bits show, bounds-checked before (has_bits).
+    pub fn peek(self, src: &[u8], n: u32) -> u32
         requires { ⌜ (n ≤ 32) × (bitAt self + n ≤ 8 * length (now src)) ⌝ }
         ensures { λ v. ⌜ v ≡ numberOf (take n (drop (bitAt self) (bitsOf (now (src .entry))))) ⌝ }
     {
@@ -181,8 +183,8 @@ impl BitPos {
         number_at(src, byte + (bit / 8) as usize, bit % 8, n)
     }
 
-    // The position n bits on, for a position whose bit is below 8: fewer steps than `after`.
-    pub fn past(self, n: u32) -> BitPos
+    // The position n bits on, for a position whose bit is below 8: fewer steps than `advance`.
+    pub fn advance_bits(self, n: u32) -> BitPos
         requires { ⌜ (self .bit < 8) × (n ≤ 65536) × (self .byte < 2 ^ 63) ⌝ }
         ensures { λ r. ⌜ r ≡ posOf (bitAt self + n) ⌝ }
     {
@@ -194,8 +196,8 @@ impl BitPos {
         }
     }
 
-    // The number that the next n bits show, where four bytes are there: no test, for loops that have made theirs before.
-    pub fn short_number(self, src: &[u8], n: u32) -> u32
+    // The number that the next n bits show, out of four bytes: for loops that were bounds-checked as a whole.
+    pub fn peek_word(self, src: &[u8], n: u32) -> u32
         requires { ⌜ (0 < n) × (n ≤ 24) × (self .bit < 8) × (self .byte + 4 ≤ length (now src)) ⌝ }
         ensures { λ v. ⌜ v ≡ numberOf (take n (drop (bitAt self) (bitsOf (now (src .entry))))) ⌝ }
     {
@@ -209,32 +211,32 @@ impl BitPos {
         ensures { λ r. ⌜ r ≡ readU32 (now (src .entry)) (bitAt self) n ⌝ }
     {
         if 32 < n {
-            return BitRead::Refused(12);
+            return BitRead::Refused(answers::OUT_OF_RANGE);
         }
-        if self.holds(src.len(), 1, n as usize) {
-            BitRead::Number(self.number(src, n), self.after(1, n as usize))
+        if self.has_bits(src.len(), 1, n as usize) {
+            BitRead::Number(self.peek(src, n), self.advance(1, n as usize))
         } else {
-            BitRead::Refused(8)
+            BitRead::Refused(answers::INPUT_ENDS)
         }
     }
 
-    // The low n bits of v are put here. Refuses with 12, then 7.
-    pub fn write_u32(self, out: &mut [u8], v: u32, n: u32) -> BitWrite
+    // Writes the low n bits of v here. Refuses with 12, then 7.
+    pub fn write_u32(self, out: &mut [u8], v: u32, n: u32) -> BitMove
         ensures { λ r. ⌜ r ≡ writeU32 (now (out .entry)) (bitAt self) n ⌝ }
         ensures { λ r. ⌜ now (out .exit) ≡ written (now (out .entry)) (bitAt self) v n ⌝ }
     {
         let byte = self.byte;
         let bit = self.bit;
         if 32 < n {
-            return BitWrite::Refused(12);
+            return BitMove::Refused(answers::OUT_OF_RANGE);
         }
-        if self.holds(out.len(), 1, n as usize) {
+        if self.has_bits(out.len(), 1, n as usize) {
             let q = byte + (bit / 8) as usize;
             let r = bit % 8;
             put_bits(out, q, r, v, n);
-            BitWrite::Done(self.after(1, n as usize))
+            BitMove::Done(self.advance(1, n as usize))
         } else {
-            BitWrite::Refused(7)
+            BitMove::Refused(answers::OUTPUT_FULL)
         }
     }
 }

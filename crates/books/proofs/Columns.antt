@@ -1,25 +1,23 @@
--- A book in component order: where its numbers stand, and that the search through it is the search through the book. Assumes nothing.
-use Prim.Native.Nat.{ℕ, zero, suc, _+_, _-_, _*_, _/_, _%_, _^_, _<_, _≤_}
+-- A book in component order: where its numbers are; its search is the search through the book. Assumes nothing.
+use Prim.Native.Nat.{ℕ, zero, suc, _+_, _-_, _*_, _/_, _%_, _<_, _≤_}
 use mathlib.Core.Path.{_≡_, refl, ap, sym, _∙_}
 use mathlib.Core.Bool.{false}
 use mathlib.Core.List.{List, [], _∷_, _++_}
 use native.Mathlib.Nat.{zero-mul, suc-mul, mul-comm, mod-lt, mod-add-div, div-lt-iff-lt-mul}
 use native.Mathlib.Omega.{arith}
 use lib.IntN.{ℤ, pos}
-use lib.ListN.{length, getD, take, drop, length-drop, List·getD-append}
-use lib.Dec.{T, eqb, leb, eqb→eq, leb→le}
+use lib.ListN.{length, length-append, length-map, getD, take, drop, List·getD-append}
+use lib.Dec.{T}
 use lib.Ieee.Bits.{nanBits-is}
-use lib.Seq.{getD-append-add, getD-drop, length-take-le}
+use lib.Seq.{getD-append-add, getD-drop}
 use lib.Ieee.{Float, nan, inf, fin, binary32, ofBits, nanBits, isNan}
-use Rattle.tables.specs.Numbers.{vqBitsTable}
-use Rattle.tables.specs.Tables.{book, vqBits}
-use Rattle.tables.proofs.Tests.{every-at}
+use Rattle.tables.specs.Tables.{book}
 use Rattle.levels.specs.Value.{f0, q15}
-use Rattle.fractions.specs.Fractions.{column, byComponent, floats}
+use Rattle.books.specs.Fractions.{column, byComponent, floats, FractionsOf}
 use Rattle.books.specs.Books.{termOf, sumTo, distanceOf, searchFrom, nearestIn, vectorsOf, searchOf}
-use Rattle.books.specs.Work.{searchBy, termBy, distanceBy, distanceIn, NoNans, placeOf, FractionsLoaded}
+use Rattle.books.specs.Work.{distanceBy, distanceIn, NoNans, placeOf, FractionsLoaded}
 use Rattle.books.proofs.First.{real, entry-real}
-use Rattle.books.proofs.Laws.{HasBook, has-book, some-vectors}
+use Rattle.books.proofs.Laws.{HasBook}
 
 -- ---- the f32 at a place
 pub float-at : (l : List ℕ) (i : ℕ) → i < length l → getD (floats l) i nan ≡ ofBits binary32 (getD l i 0)
@@ -29,15 +27,12 @@ float-at (u ∷ l) zero h = refl
 float-at (u ∷ l) (suc i) h = float-at l i (omega arith)
 
 -- six terms are the distance
-pub six-terms : (t : List ℕ) (n k : ℕ) (p q r s u v a b c d e z : Float) → n * 6 ≤ length t → k < n
-    → a ≡ termBy f0 p (ofBits binary32 (getD t k 0)) → b ≡ termBy a q (ofBits binary32 (getD t (k + n) 0))
-    → c ≡ termBy b r (ofBits binary32 (getD t (k + 2 * n) 0)) → d ≡ termBy c s (ofBits binary32 (getD t (k + 3 * n) 0))
-    → e ≡ termBy d u (ofBits binary32 (getD t (k + 4 * n) 0)) → z ≡ termBy e v (ofBits binary32 (getD t (k + 5 * n) 0))
-    → z ≡ distanceBy (floats t) n k p q r s u v
+pub six-terms : (t : List Float) (n k : ℕ) (p q r s u v a b c d e z : Float)
+    → a ≡ termOf f0 p (getD t k nan) → b ≡ termOf a q (getD t (k + n) nan) → c ≡ termOf b r (getD t (k + 2 * n) nan)
+    → d ≡ termOf c s (getD t (k + 3 * n) nan) → e ≡ termOf d u (getD t (k + 4 * n) nan) → z ≡ termOf e v (getD t (k + 5 * n) nan)
+    → z ≡ distanceBy t n k p q r s u v
 unfolding distanceBy
-six-terms t n k p q r s u v a b c d e z l h ea eb ec ed ee ez =
-    rw (float-at t k (omega arith), float-at t (k + n) (omega arith), float-at t (k + 2 * n) (omega arith), float-at t (k + 3 * n) (omega arith), float-at t (k + 4 * n) (omega arith), float-at t (k + 5 * n) (omega arith))
-    (ez ∙ rw (ee, ed, ec, eb, ea))
+six-terms t n k p q r s u v a b c d e z ea eb ec ed ee ez = ez ∙ rw (ee, ed, ec, eb, ea)
 
 -- ---- one column
 column-length : (n : ℕ) (b : List ℤ) → length (column n b) ≡ n
@@ -88,7 +83,7 @@ module _ (n : ℕ) (b : List ℤ) where
 
   -- the distance from vector k
   same-distance : (x : List Float) (k : ℕ) → k < n → distanceIn x (byComponent n b) n k ≡ distanceOf x b k
-  unfolding distanceIn distanceBy termBy distanceOf sumTo termOf
+  unfolding distanceIn distanceBy distanceOf sumTo
   same-distance x k h =
       let e0 = component 0 k k (omega arith) h (omega (arith, zero-mul n)) in
       let e1 = component 1 k (k + n) (omega arith) h (omega arith) in
@@ -116,50 +111,32 @@ no-nans t n b z l e =
     }
 
 -- ---- the search
-by-distance : (x : List Float) (b : List ℤ) (f : ℕ → Float) (n k best : ℕ) (d : Float) → ((i : ℕ) → i < k + n → f i ≡ distanceOf x b i)
-    → searchBy f n k best d ≡ searchFrom x b n k best d
-unfolding searchBy searchFrom
-by-distance x b f zero k best d h = refl
-by-distance x b f (suc n) k best d h =
-    let e = h k (omega arith) in
-    rw e (by-distance x b f n (suc k) _ _ (λ i l. h i (omega arith)))
+same-search : (f g : ℕ → Float) (n k best : ℕ) (d : Float) → ((i : ℕ) → i < k + n → f i ≡ g i) → searchFrom f n k best d ≡ searchFrom g n k best d
+unfolding searchFrom
+same-search f g zero k best d h = refl
+same-search f g (suc n) k best d h = rw (h k (omega arith)) (same-search f g n (suc k) _ _ (λ i l. h i (omega arith)))
 
-pub by-component : (n : ℕ) (b : List ℤ) (x : List Float) → searchBy (distanceIn x (byComponent n b) n) n 0 0 (inf false) ≡ nearestIn b n x
+by-component : (n : ℕ) (b : List ℤ) (x : List Float) → searchFrom (distanceIn x (byComponent n b) n) n 0 0 (inf false) ≡ nearestIn b n x
 unfolding nearestIn
-by-component n b x = by-distance x b (distanceIn x (byComponent n b) n) n 0 0 (inf false) (λ k h. same-distance n b x k (omega arith))
+by-component n b x = same-search (distanceIn x (byComponent n b) n) (distanceOf x b) n 0 0 (inf false) (λ k h. same-distance n b x k (omega arith))
 
 -- ---- the book of a hebap
--- n vectors, from the place a of the seven books on
-pub record Placed (h n a : ℕ) : Type 0 where
-  pub has : HasBook h n
-  pub some : 0 < n
-  pub fours : n % 4 ≡ 0
-  pub room : a + 6 * n ≤ 5736
+columns-length : (n : ℕ) (b : List ℤ) → length (byComponent n b) ≡ 6 * n
+unfolding byComponent
+columns-length n b =
+    rw (length-append, length-append, length-append, length-append, length-append)
+    (omega (arith, column-length n b, column-length n (drop 1 b), column-length n (drop 2 b), column-length n (drop 3 b), column-length n (drop 4 b), column-length n (drop 5 b)))
 
-pub placed : (h n a : ℕ) → 1 ≤ h → h ≤ 7 → n ≡ vectorsOf h → a ≡ placeOf h → Placed h n a
-unfolding vqBits vqBitsTable
-placed h n a l u en ea =
-    let z = some-vectors h n l u en in
-    record {
-      has = has-book h n en z;
-      some = omega arith;
-      fours = rw en (eqb→eq (vectorsOf h % 4) 0 (every-at (λ k. eqb (vectorsOf k % 4) 0) 7 1 h tt l (omega arith)));
-      room = rw (en, ea) (leb→le (placeOf h + 6 * vectorsOf h) 5736 (every-at (λ k. leb (placeOf k + 6 * vectorsOf k) 5736) 7 1 h tt l (omega arith)));
-    }
+pub book-length : (h : ℕ) (t : List ℕ) → FractionsOf h t → length t ≡ 6 * vectorsOf h
+unfolding floats
+book-length h t e = sym (length-map t (ofBits binary32)) ∙ ap length e ∙ columns-length (vectorsOf h) (book h)
 
 -- that part of the seven books, as the code names it
-pub book-part : (h n a : ℕ) (l : List ℕ) → 1 ≤ h → h ≤ 7 → n ≡ vectorsOf h → a ≡ placeOf h → FractionsLoaded l
-    → let t = take (a + 6 * n - a) (drop a l) in (length t ≡ n * 6) × (floats t ≡ byComponent n (book h))
-book-part h n a l p q en ea f =
-    let m : a + 6 * n - a ≡ 6 * n = omega arith in
-    let r = placed h n a p q en ea .room in
-    let w = f .whole in
-    let d = length-drop a l in
-    let size : length (take (6 * n) (drop a l)) ≡ 6 * n = length-take-le (6 * n) (drop a l) (omega arith) in
-    rw m (omega arith, rw (en, ea) (f .each h p q))
+pub book-part : (h n a : ℕ) (l : List ℕ) → 1 ≤ h → h ≤ 7 → n ≡ vectorsOf h → a ≡ placeOf h → FractionsLoaded l → FractionsOf h (take (a + 6 * n - a) (drop a l))
+book-part h n a l p q en ea f = let m : a + 6 * n - a ≡ 6 * n = omega arith in rw (m, en, ea) (f .each h p (omega arith))
 
 -- what the search through it answers
-pub searched : (h k n : ℕ) (t : List ℕ) (x : List Float) (r : ℕ) → h ≡ k → n ≡ 2 ^ vqBits k → floats t ≡ byComponent n (book k)
-    → r ≡ searchBy (distanceIn x (floats t) n) n 0 0 (inf false) → r ≡ searchOf h x
+pub searched : (h n : ℕ) (t : List ℕ) (x : List Float) (r : ℕ) → n ≡ vectorsOf h → HasBook h n → FractionsOf h t
+    → r ≡ searchFrom (distanceIn x (floats t) n) n 0 0 (inf false) → r ≡ searchOf h x
 unfolding searchOf
-searched h k n t x r e en et er = rw (e, ← en) (er ∙ rw et (by-component n (book k) x))
+searched h n t x r en k et er = rw (← k .size) (er ∙ rw (et, ← en) (by-component n (book h) x))

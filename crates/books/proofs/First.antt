@@ -18,9 +18,9 @@ use Rattle.tables.specs.Tables.{book, vqBits}
 use Rattle.tables.proofs.Tests.{lt-or-le}
 use Rattle.levels.specs.Component.{tooLarge, someTooLarge}
 use Rattle.levels.specs.Value.{q15}
+use Rattle.levels.proofs.Range.{each-accepted}
 use Rattle.books.specs.Books.{termOf, sumTo, distanceOf, searchFrom, nearestIn, FirstLeast, searchOf, vqSearch}
-use Rattle.books.specs.declared.SearchResult.the-variants.{Index}
-use Rattle.books.proofs.Steps.{or-false}
+use Rattle.answers.specs.declared.SizeResult.the-variants.{Value}
 
 -- ---- no NaN, and no NaN and not below zero
 abbrev pub real : Float → Bool
@@ -120,15 +120,9 @@ pub entry-real : (z : ℤ) → T (real (q15 z))
 unfolding q15 ofBits
 entry-real z = quotient-real (ofInt binary32 z) (int-real z)
 
-term-plain : (d x : Float) (e : ℤ) → tooLarge x ≡ false → T (plain d) → T (plain (termOf d x e))
+term-plain : (d x e : Float) → tooLarge x ≡ false → T (real e) → T (plain d) → T (plain (termOf d x e))
 unfolding termOf
-term-plain d x e h p = add-plain d (mul binary32 (sub binary32 x (q15 e)) (sub binary32 x (q15 e))) p (square-plain (sub binary32 x (q15 e)) (sub-real x (q15 e) h (entry-real e)))
-
--- ---- components that are accepted
-each-accepted : (x : List Float) (j : ℕ) → someTooLarge x ≡ false → j < length x → tooLarge (getD x j nan) ≡ false
-each-accepted [] j h k = absurd (omega arith)
-each-accepted (y ∷ x) zero h k = or-false (tooLarge y) (someTooLarge x) h .0
-each-accepted (y ∷ x) (suc j) h k = each-accepted x j (or-false (tooLarge y) (someTooLarge x) h .1) (omega arith)
+term-plain d x e h r p = add-plain d (mul binary32 (sub binary32 x e) (sub binary32 x e)) p (square-plain (sub binary32 x e) (sub-real x e h r))
 
 -- ---- the order of such numbers
 apart : (a b c : Float) → T (plain a) → T (plain b) → T (plain c) → lt a b ≡ true → lt c b ≡ false → (lt a c ≡ true) × (lt c a ≡ false)
@@ -176,74 +170,76 @@ never-self (fin false m e) p = le-ltb (m * up e * down e) (m * up e * down e) (o
 
 module _ (x : List Float) (b : List ℤ) (l : length x ≡ 6) (h : someTooLarge x ≡ false) where
   abbrev D : ℕ → Float
-  D k = distanceOf x b k
+  D = distanceOf x b
 
   sum-plain : (j a : ℕ) → j ≤ 6 → T (plain (sumTo j x b a))
   unfolding sumTo ofBits
   sum-plain zero a k = tt
-  sum-plain (suc j) a k = term-plain (sumTo j x b a) (getD x j nan) _ (each-accepted x j h (omega arith)) (sum-plain j a (omega arith))
+  sum-plain (suc j) a k = term-plain (sumTo j x b a) (getD x j nan) _ (each-accepted x nan j h (omega arith)) (entry-real _) (sum-plain j a (omega arith))
 
   distance-plain : (k : ℕ) → T (plain (D k))
   unfolding distanceOf
   distance-plain k = sum-plain 6 (k * 6) (omega arith)
 
-  -- the nearest of the vectors before k, and its distance
-  record Nearest (k best : ℕ) (d : Float) : Type 0 where
+  -- the first of least distance among the vectors before k, and its distance
+  record LeastBefore (k best : ℕ) (d : Float) : Type 0 where
     known : d ≡ D best
-    there : best < k
-    none-smaller : (j : ℕ) → j < k → lt (D j) d ≡ false
-    earlier-larger : (j : ℕ) → j < best → lt d (D j) ≡ true
+    least : FirstLeast x b k best
 
-  split : (j k : ℕ) → j < suc k → (j ≡ k) ⊎ (j < k)
-  split j k u = eq-or-lt-of-le (let v : j ≤ k = omega arith in v)
-
-  first : Nearest 1 (cond (lt (D 0) (inf false)) 0 0) (cond (lt (D 0) (inf false)) (D 0) (inf false))
+  first : LeastBefore 1 (cond (lt (D 0) (inf false)) 0 0) (cond (lt (D 0) (inf false)) (D 0) (inf false))
   first = go (lt (D 0) (inf false)) refl
     where
-      one : (d : Float) → d ≡ D 0 → Nearest 1 0 d
-      one d e =
+      only : FirstLeast x b 1 0
+      only =
           record {
-            known = e;
             there = omega arith;
-            none-smaller = λ j u. let z : j ≡ 0 = omega arith in rw (z, e) (never-self (D 0) (distance-plain 0));
+            none-smaller = λ j u. let z : j ≡ 0 = omega arith in rw z (never-self (D 0) (distance-plain 0));
             earlier-larger = λ j u. absurd (let z : j < 0 = u in omega arith);
           }
 
-      go : (t : Bool) → lt (D 0) (inf false) ≡ t → Nearest 1 (cond t 0 0) (cond t (D 0) (inf false))
-      go true e = one (D 0) refl
-      go false e = one (inf false) (sym (top-only (D 0) (distance-plain 0) e))
+      go : (t : Bool) → lt (D 0) (inf false) ≡ t → LeastBefore 1 (cond t 0 0) (cond t (D 0) (inf false))
+      go true e = record { known = refl; least = only }
+      go false e = record { known = sym (top-only (D 0) (distance-plain 0) e); least = only }
 
-  next : (k best : ℕ) (d : Float) → Nearest k best d → Nearest (suc k) (cond (lt (D k) d) k best) (cond (lt (D k) d) (D k) d)
+  next : (k best : ℕ) (d : Float) → LeastBefore k best d → LeastBefore (suc k) (cond (lt (D k) d) k best) (cond (lt (D k) d) (D k) d)
   next k best d s = go (lt (D k) d) refl
     where
-      dp : T (plain d)
-      dp = subst (λ (z : Float). T (plain z)) (sym (s .known)) (distance-plain best)
+      f : FirstLeast x b k best
+      f = s .least
 
-      go : (t : Bool) → lt (D k) d ≡ t → Nearest (suc k) (cond t k best) (cond t (D k) d)
+      split : (j : ℕ) → j < suc k → (j ≡ k) ⊎ (j < k)
+      split j u = eq-or-lt-of-le (let v : j ≤ k = omega arith in v)
+
+      beyond : lt (D k) d ≡ true → (j : ℕ) → j < k → (lt (D k) (D j) ≡ true) × (lt (D j) (D k) ≡ false)
+      beyond e j v = apart (D k) (D best) (D j) (distance-plain k) (distance-plain best) (distance-plain j) (rw (s .known) at e) (f .none-smaller j v)
+
+      go : (t : Bool) → lt (D k) d ≡ t → LeastBefore (suc k) (cond t k best) (cond t (D k) d)
       go true e =
+          let least : FirstLeast x b (suc k) k =
           record {
-            known = refl;
             there = omega arith;
-            none-smaller = λ j u. elim (split j k u) [
+            none-smaller = λ j u. elim (split j u) [
               | inl q ↦ rw q (never-self (D k) (distance-plain k))
-              | inr v ↦ apart (D k) d (D j) (distance-plain k) dp (distance-plain j) e (s .none-smaller j v) .1
+              | inr v ↦ beyond e j v .1
             ];
-            earlier-larger = λ j u. apart (D k) d (D j) (distance-plain k) dp (distance-plain j) e (s .none-smaller j u) .0;
-          }
+            earlier-larger = λ j u. beyond e j u .0;
+          } in
+          record { known = refl; least = least }
       go false e =
+          let least : FirstLeast x b (suc k) best =
           record {
-            known = s .known;
-            there = let z = s .there in omega arith;
-            none-smaller = λ j u. elim (split j k u) [
-              | inl q ↦ rw q e
-              | inr v ↦ s .none-smaller j v
+            there = let z = f .there in omega arith;
+            none-smaller = λ j u. elim (split j u) [
+              | inl q ↦ rw (q, ← s .known) e
+              | inr v ↦ f .none-smaller j v
             ];
-            earlier-larger = s .earlier-larger;
-          }
+            earlier-larger = f .earlier-larger;
+          } in
+          record { known = s .known; least = least }
 
-  search-on : (n k best : ℕ) (d : Float) → Nearest k best d → Nearest (k + n) (searchFrom x b n k best d) (D (searchFrom x b n k best d))
+  search-on : (n k best : ℕ) (d : Float) → LeastBefore k best d → FirstLeast x b (k + n) (searchFrom D n k best d)
   unfolding searchFrom
-  search-on zero k best d s = rw (add-zero k) (rw (s .known) at s)
+  search-on zero k best d s = rw (add-zero k) (s .least)
   search-on (suc n) k best d s = rw (add-suc k n, ← suc-add k n) (search-on n (suc k) (cond (lt (D k) d) k best) (cond (lt (D k) d) (D k) d) (next k best d s))
 
   -- no vector has a smaller distance, every earlier one a larger
@@ -251,12 +247,8 @@ module _ (x : List Float) (b : List ℤ) (l : length x ≡ 6) (h : someTooLarge 
   unfolding nearestIn searchFrom
   first-least zero p = absurd (omega arith)
   first-least (suc n) p =
-      let s = search-on n 1 _ _ first in
-      record {
-        there = let z = s .there in omega arith;
-        none-smaller = λ k u. s .none-smaller k (omega arith);
-        earlier-larger = s .earlier-larger;
-      }
+      let one : 1 + n ≡ suc n = omega arith in
+      subst (λ (m : ℕ). FirstLeast x b m (nearestIn b (suc n) x)) one (search-on n 1 _ _ first)
 
 -- ---- there is only one such index
 -- the later of two would have a smaller distance than the earlier
@@ -267,7 +259,7 @@ not-later x b n k k′ f g =
       | inr u ↦ u
     ]
 
-pub first-unique : (x : List Float) (b : List ℤ) (n k k′ : ℕ) → FirstLeast x b n k → FirstLeast x b n k′ → k ≡ k′
+first-unique : (x : List Float) (b : List ℤ) (n k k′ : ℕ) → FirstLeast x b n k → FirstLeast x b n k′ → k ≡ k′
 first-unique x b n k k′ f g = le-antisymm (not-later x b n k′ k g f) (not-later x b n k k′ f g)
 
 -- ---- the index that the search picks, and no other, is the first of least distance in the book of the hebap
@@ -279,6 +271,6 @@ pub search-only : (h : ℕ) (x : List Float) → 1 ≤ h → h ≤ 7 → length 
 search-only h x l u s a k f = first-unique x (book h) (2 ^ vqBits h) k (searchOf h x) f (search-first h x l u s a)
 
 -- and it is the answer
-pub search-answer : (h : ℕ) (x : List Float) → 1 ≤ h → h ≤ 7 → someTooLarge x ≡ false → vqSearch h x ≡ Index (searchOf h x)
+pub search-answer : (h : ℕ) (x : List Float) → 1 ≤ h → h ≤ 7 → someTooLarge x ≡ false → vqSearch h x ≡ Value (searchOf h x)
 unfolding vqSearch
 search-answer h x l u a = rw (le-leb 1 h l, le-leb h 7 u, a)

@@ -1,3 +1,5 @@
+pub mod Quotients
+pub mod Patterns
 pub mod Steps
 pub mod Columns
 pub mod Laws

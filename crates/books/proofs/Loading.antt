@@ -13,7 +13,7 @@ use Rattle.tables.specs.Numbers.{vqBitsTable}
 use Rattle.tables.specs.Tables.{vqBits}
 use Rattle.tables.proofs.Tests.{lt-or-le}
 use Rattle.books.specs.Books.{vectorsOf}
-use Rattle.books.specs.Work.{placeOf, bookIn}
+use Rattle.books.specs.Work.{placeOf, bookIn, LoadedBefore}
 
 -- ---- a list copied to a place of another, an element at a time
 module _ {A : Type 0} (from to l : List A) (at i : ℕ) (e : l ≡ splice to at (take i from)) where
@@ -53,28 +53,27 @@ pub place-end : placeOf 8 ≡ 5736
 unfolding vqBits vqBitsTable
 place-end = refl
 
--- the books before that of k are there, where P says what a book is to be
-pub record Loaded {A : Type 0} (P : ℕ → List A → Type 0) (k : ℕ) (l : List A) : Type 0 where
-  pub whole : length l ≡ 5736
-  pub each : (h : ℕ) → 1 ≤ h → h < k → P h (bookIn h l)
-
 module _ {A : Type 0} (P : ℕ → List A → Type 0) where
-  pub load-none : (l : List A) → length l ≡ 5736 → Loaded P 1 l
-  load-none l e = record { whole = e; each = λ h a b. absurd (omega arith) }
+  pub load-none : {l : List A} → length l ≡ 5736 → LoadedBefore P 1 l
+  load-none e = record { whole = e; each = λ h a b. absurd (omega arith) }
 
-  -- one book more
-  pub load-next : (k : ℕ) {at : ℕ} {l b w : List A} → k < 8 → at ≡ placeOf k → length b ≡ 6 * vectorsOf k → P k b → w ≡ splice l at b → Loaded P k l → Loaded P (suc k) w
-  load-next k {at} {l} {b} {w} o p n y e s =
-      let f = s .whole in
-      let r : at + length b ≤ 5736 = let q = place-later 8 k o in let z = place-end in omega arith in
-      let there : bookIn k w ≡ b = rw (e, ← n, ← p) (splice-read l b at (omega arith)) in
-      record {
-        whole = rw e (length-splice l b at (omega arith) ∙ f);
-        each = λ h a u. elim (lt-or-le h k) [
-          | inl v ↦
-              let q = place-later k h v in
-              let same : bookIn h w ≡ bookIn h l = rw e (part-kept l b at (placeOf h) (6 * vectorsOf h) (omega arith) (omega arith)) in
-              rw same (s .each h a v)
-          | inr v ↦ let i : h ≡ k = omega arith in rw (i, there) y
-        ];
-      }
+  module _ (k at : ℕ) (l b : List A) (o : k < 8) (p : at ≡ placeOf k) (n : length b ≡ 6 * vectorsOf k) (s : LoadedBefore P k l) where
+    -- the next book has room
+    pub load-fits : at + length b ≤ length l
+    load-fits = let f = s .whole in let q = place-later 8 k o in let z = place-end in omega arith
+
+    pub load-next : P k b → (w : List A) → w ≡ splice l at b → LoadedBefore P (k + 1) w
+    load-next y w e =
+        let f = s .whole in
+        let room = load-fits in
+        let there : bookIn k w ≡ b = rw (e, ← n, ← p) (splice-read l b at (omega arith)) in
+        record {
+          whole = rw e (length-splice l b at (omega arith) ∙ f);
+          each = λ h a u. elim (lt-or-le h k) [
+            | inl v ↦
+                let q = place-later k h v in
+                let same : bookIn h w ≡ bookIn h l = rw e (part-kept l b at (placeOf h) (6 * vectorsOf h) (omega arith) (omega arith)) in
+                rw same (s .each h a v)
+            | inr v ↦ let i : h ≡ k = omega arith in rw (i, there) y
+          ];
+        }

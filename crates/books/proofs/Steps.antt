@@ -4,54 +4,52 @@ use mathlib.Core.Bool.{Bool, true, false, cond, _||_, true≢false}
 use Prim.Native.Nat.{ℕ, suc, _+_, _-_, _<_, _≤_}
 use native.Mathlib.Omega.{arith}
 use lib.Ieee.{Float, lt}
-use Rattle.books.specs.declared.Near.{Near}
-use Rattle.books.specs.Work.{nearerOf, searchBy}
+use Rattle.bits.proofs.Tests.{neither}
+use Rattle.books.specs.declared.Nearest.{Nearest}
+use Rattle.books.specs.Books.{searchFrom}
+use Rattle.books.specs.Work.{nearerOf}
 
 -- what the search comes to from the place k on, where s is the nearest so far
-abbrev pub onFrom : (ℕ → Float) → ℕ → ℕ → Near → ℕ
-onFrom f n k s = searchBy f (n - k) k (s .best) (s .least)
+abbrev pub onFrom : (ℕ → Float) → ℕ → ℕ → Nearest → ℕ
+onFrom f n k s = searchFrom f (n - k) k (s .best) (s .least)
 
 -- the nearest so far after four distances more
-abbrev pub fourOn : Near → Float → Float → Float → Float → ℕ → Near
+abbrev pub fourOn : Nearest → Float → Float → Float → Float → ℕ → Nearest
 fourOn s a b c d k = nearerOf (nearerOf (nearerOf (nearerOf s a k) b (k + 1)) c (k + 2)) d (k + 3)
 
 -- one after the other, as the code has them
-pub four-on : (s : Near) (a b c d : Float) (k : ℕ) (s1 s2 s3 s4 : Near) → s1 ≡ nearerOf s a k → s2 ≡ nearerOf s1 b (k + 1) → s3 ≡ nearerOf s2 c (k + 2) → s4 ≡ nearerOf s3 d (k + 3)
+pub four-on : (s : Nearest) (a b c d : Float) (k : ℕ) (s1 s2 s3 s4 : Nearest) → s1 ≡ nearerOf s a k → s2 ≡ nearerOf s1 b (k + 1) → s3 ≡ nearerOf s2 c (k + 2) → s4 ≡ nearerOf s3 d (k + 3)
     → s4 ≡ fourOn s a b c d k
 four-on s a b c d k s1 s2 s3 s4 e1 e2 e3 e4 = e4 ∙ rw (e3, e2, e1)
 
-pub or-false : (a b : Bool) → a || b ≡ false → (a ≡ false) × (b ≡ false)
-or-false true b h = absurd (true≢false h)
-or-false false b h = (refl, h)
-
 -- a distance that is not less changes nothing
-keeps : (s : Near) (d : Float) (k : ℕ) → lt d (s .least) ≡ false → nearerOf s d k ≡ s
+keeps : (s : Nearest) (d : Float) (k : ℕ) → lt d (s .least) ≡ false → nearerOf s d k ≡ s
 unfolding nearerOf
 keeps s d k t = rw t
 
-one-more : (f : ℕ → Float) (m k : ℕ) (d : Float) (s : Near) → d ≡ f k
-    → searchBy f (suc m) k (s .best) (s .least) ≡ searchBy f m (suc k) (nearerOf s d k .best) (nearerOf s d k .least)
-unfolding searchBy nearerOf
+one-more : (f : ℕ → Float) (m k : ℕ) (d : Float) (s : Nearest) → d ≡ f k
+    → searchFrom f (suc m) k (s .best) (s .least) ≡ searchFrom f m (suc k) (nearerOf s d k .best) (nearerOf s d k .least)
+unfolding searchFrom nearerOf
 one-more f m k d s e = rw (← e) (go (lt d (s .least)))
   where
     go : (t : Bool)
-        → searchBy f m (suc k) (cond t k (s .best)) (cond t d (s .least))
-        ≡ searchBy f m (suc k) (cond t (record { best = k; least = d }) s .best) (cond t (record { best = k; least = d }) s .least)
+        → searchFrom f m (suc k) (cond t k (s .best)) (cond t d (s .least))
+        ≡ searchFrom f m (suc k) (cond t (record { best = k; least = d }) s .best) (cond t (record { best = k; least = d }) s .least)
     go true = refl
     go false = refl
 
 module _ (f : ℕ → Float) (n : ℕ) where
-  pub by-end : (k : ℕ) (s : Near) → n ≤ k → onFrom f n k s ≡ s .best
-  unfolding searchBy
-  by-end k s h = let e : n - k ≡ 0 = omega arith in ap (λ (m : ℕ). searchBy f m k (s .best) (s .least)) e
+  pub by-end : (k : ℕ) (s : Nearest) → n ≤ k → onFrom f n k s ≡ s .best
+  unfolding searchFrom
+  by-end k s h = let e : n - k ≡ 0 = omega arith in ap (λ (m : ℕ). searchFrom f m k (s .best) (s .least)) e
 
   -- the next place is given as the code has it
-  by-one : (k j : ℕ) (d : Float) (s : Near) → k < n → j ≡ suc k → d ≡ f k → onFrom f n k s ≡ onFrom f n j (nearerOf s d k)
+  by-one : (k j : ℕ) (d : Float) (s : Nearest) → k < n → j ≡ suc k → d ≡ f k → onFrom f n k s ≡ onFrom f n j (nearerOf s d k)
   by-one k j d s h p e =
       let q : n - k ≡ suc (n - suc k) = omega arith in
       rw (p, q) (one-more f (n - suc k) k d s e)
 
-  module _ (k : ℕ) (s : Near) (a b c d : Float) (h : k + 3 < n) (ea : a ≡ f k) (eb : b ≡ f (k + 1)) (ec : c ≡ f (k + 2)) (ed : d ≡ f (k + 3)) where
+  module _ (k : ℕ) (s : Nearest) (a b c d : Float) (h : k + 3 < n) (ea : a ≡ f k) (eb : b ≡ f (k + 1)) (ec : c ≡ f (k + 2)) (ed : d ≡ f (k + 3)) where
     pub by-four : onFrom f n k s ≡ onFrom f n (k + 4) (fourOn s a b c d k)
     by-four =
         by-one k (k + 1) a s (omega arith) (omega arith) ea
@@ -62,7 +60,7 @@ module _ (f : ℕ → Float) (n : ℕ) where
     -- none of the four is less
     pub by-four-farther : (lt a (s .least) || (lt b (s .least) || (lt c (s .least) || lt d (s .least)))) ≡ false → onFrom f n k s ≡ onFrom f n (k + 4) s
     by-four-farther t =
-        let u = or-false (lt a (s .least)) _ t in
-        let v = or-false (lt b (s .least)) _ (u .1) in
-        let w = or-false (lt c (s .least)) _ (v .1) in
+        let u = neither (lt a (s .least)) _ t in
+        let v = neither (lt b (s .least)) _ (u .1) in
+        let w = neither (lt c (s .least)) _ (v .1) in
         by-four ∙ ap (onFrom f n (k + 4)) (rw (keeps s a k (u .0), keeps s b (k + 1) (v .0), keeps s c (k + 2) (w .0), keeps s d (k + 3) (w .1)))

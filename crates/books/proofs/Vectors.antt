@@ -1,11 +1,9 @@
--- A vector of a book: put at a place of a list a number at a time, and found where the seven books are loaded. Assumes nothing.
+-- A vector of a book: copied a number at a time, and found where the seven books are loaded. Assumes nothing.
 use Prim.Native.Nat.{ℕ, suc, _+_, _*_, _%_, _^_, _≤_, _<_}
-use mathlib.Core.Path.{_≡_, sym, ap, _∙_}
-use mathlib.Core.Bool.{true}
+use mathlib.Core.Path.{_≡_, refl, sym, ap, _∙_}
 use mathlib.Core.List.{List, [], _∷_, _++_, map}
-use native.Mathlib.Nat.{mod-eq-of-lt}
+use native.Mathlib.Nat.{mod-lt, mod-eq-of-lt}
 use native.Mathlib.Omega.{arith}
-use borrow.Author.Tests.{le-leb}
 use lib.IntN.{ℤ, pos}
 use lib.Ieee.{Float}
 use lib.ListN.{length, length-drop, take, drop, getD, set, take-append-drop}
@@ -14,9 +12,9 @@ use Rattle.bits.specs.Bits.{splice}
 use Rattle.bits.proofs.Copying.{put-more}
 use Rattle.tables.specs.Tables.{book, vqBits}
 use Rattle.levels.specs.Value.{q15}
-use Rattle.tables.proofs.Rules.{book-size}
-use Rattle.books.specs.Books.{hasBook, vectorsOf, sixAt, vqLookup, exactEntry, exactsAt, vqExact}
+use Rattle.books.specs.Books.{vectorsOf, sixBy, sixAt, vqLookup, exactEntry, exactsAt, vqExact}
 use Rattle.books.specs.Work.{placeOf, VectorsLoaded}
+use Rattle.books.proofs.Laws.{HasBook, book-of}
 use Rattle.books.proofs.Loading.{part-front, place-later, place-end}
 
 module _ (b : List ℤ) (a : ℕ) (h : a + 6 ≤ length b) where
@@ -36,13 +34,8 @@ module _ (b : List ℤ) (a : ℕ) (h : a + 6 ≤ length b) where
       let e5 = next 0 5 (omega arith) in
       rw (e0, e1, e2, e3, e4, e5)
 
-  pub six-is : sixAt b a ≡ map q15 (take 6 (drop a b))
-  unfolding sixAt
-  six-is = sym (ap (map q15) entries)
-
-  pub exacts-are : exactsAt b a ≡ map exactEntry (take 6 (drop a b))
-  unfolding exactsAt
-  exacts-are = sym (ap (map exactEntry) entries)
+  pub six-is : {A : Type 0} (f : ℤ → A) → sixBy f b a ≡ map f (take 6 (drop a b))
+  six-is f = sym (ap (map f) entries)
 
   -- one number more
   pub put-next : {B : Type 0} (f : ℤ → B) (v w : List B) (at j : ℕ) (e : ℤ) → j < 6 → at + 6 ≤ length v → e ≡ getD b (a + j) (pos 0)
@@ -56,10 +49,18 @@ module _ (b : List ℤ) (a : ℕ) (h : a + 6 ≤ length b) where
       rw (take-suc (drop a b) j (pos 0) (omega arith)) (put-more f v at (take j (drop a b)) (getD (drop a b) j (pos 0)) (omega arith)) in
       rw (s, o, d) (rw k at p)
 
--- the vector at an index of a book, counted round
-pub looked-up : (h k n i : ℕ) (b : List ℤ) (r : List Float) → h ≡ k → hasBook k ≡ true → n ≡ 2 ^ vqBits k → b ≡ book k → r ≡ sixAt b (i % n * 6) → r ≡ vqLookup h i
+-- where a vector starts
+pub inside : (h n i : ℕ) (b : List ℤ) → HasBook h n → b ≡ book h → (i % n * 6 + 6 ≤ length b) × (i % n * 6 < 65536)
+inside h n i b k e =
+    let m = mod-lt i (k .some) in
+    let few = k .few in
+    let w : length b ≡ 6 * n = rw e (k .whole) in
+    (omega arith, omega arith)
+
+-- the vector at an index of a book, modulo its number of vectors
+pub looked-up : (h n i : ℕ) (b : List ℤ) (r : List Float) → HasBook h n → b ≡ book h → r ≡ sixAt b (i % n * 6) → r ≡ vqLookup h i
 unfolding vqLookup
-looked-up h k n i b r e t m f g = rw (e, t, ← m, ← f) g
+looked-up h n i b r k f g = rw (k .it-has, ← k .size, ← f) g
 
 -- ---- a vector of a book that stands in a list
 module _ (l b : List ℤ) (p n a : ℕ) (e : take n (drop p l) ≡ b) (m : length b ≡ n) (h : a + 6 ≤ n) (u : p + n ≤ length l) where
@@ -68,11 +69,8 @@ module _ (l b : List ℤ) (p n a : ℕ) (e : take n (drop p l) ≡ b) (m : lengt
       let s : b ++ drop n (drop p l) ≡ drop p l = rw (← e) (take-append-drop n (drop p l)) in
       rw (← drop-drop a p l, ← s) (part-front b (drop n (drop p l)) a 6 (omega arith))
 
-  pub same-six : sixAt l (p + a) ≡ sixAt b a
-  same-six = six-is l (p + a) (omega arith) ∙ ap (map q15) same-entries ∙ sym (six-is b a (omega arith))
-
-  pub same-exacts : exactsAt l (p + a) ≡ exactsAt b a
-  same-exacts = exacts-are l (p + a) (omega arith) ∙ ap (map exactEntry) same-entries ∙ sym (exacts-are b a (omega arith))
+  same-six : {A : Type 0} (f : ℤ → A) → sixBy f l (p + a) ≡ sixBy f b a
+  same-six f = six-is l (p + a) (omega arith) f ∙ ap (map f) same-entries ∙ sym (six-is b a (omega arith) f)
 
 -- the vector at an index of a book, where the seven books are loaded
 pub record Stands (l : List ℤ) (h i : ℕ) : Type 0 where
@@ -82,18 +80,19 @@ pub record Stands (l : List ℤ) (h i : ℕ) : Type 0 where
   pub exacts : exactsAt l (placeOf h + i * 6) ≡ vqExact h i
 
 pub stands : (l : List ℤ) (h i : ℕ) → 1 ≤ h → h ≤ 7 → i < 2 ^ vqBits h → VectorsLoaded l → Stands l h i
-unfolding vqLookup vqExact
+unfolding vqLookup vqExact sixAt exactsAt
 stands l h i a b u v =
-    let t : hasBook h ≡ true = rw (le-leb 1 h a, le-leb h 7 b) in
-    let n : vectorsOf h ≡ 2 ^ vqBits h = rw t in
+    let k = book-of h (vectorsOf h) a b refl in
+    let t = k .it-has in
+    let n = k .size in
     let w = v .whole in
     let q = place-later 8 h (omega arith) in
     let z = place-end in
-    let s : length (book h) ≡ 6 * vectorsOf h = book-size h a b ∙ ap (λ k. 6 * k) (sym n) in
+    let s = k .whole in
     let m : i % 2 ^ vqBits h ≡ i = mod-eq-of-lt u in
     record {
       inside = omega arith;
       whole = w;
-      fractions = rw (t, m) (same-six l (book h) (placeOf h) (6 * vectorsOf h) (i * 6) (v .each h a b) s (omega arith) (omega arith));
-      exacts = rw (t, m) (same-exacts l (book h) (placeOf h) (6 * vectorsOf h) (i * 6) (v .each h a b) s (omega arith) (omega arith));
+      fractions = rw (t, m) (same-six l (book h) (placeOf h) (6 * vectorsOf h) (i * 6) (v .each h a (omega arith)) s (omega arith) (omega arith) q15);
+      exacts = rw (t, m) (same-six l (book h) (placeOf h) (6 * vectorsOf h) (i * 6) (v .each h a (omega arith)) s (omega arith) (omega arith) exactEntry);
     }

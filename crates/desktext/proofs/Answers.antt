@@ -2,34 +2,27 @@
 use Prim.Native.Nat.{ℕ, zero, suc, _+_, _-_, _*_, _/_, _≤_}
 use mathlib.Core.Path.{_≡_, refl, sym, ap, _∙_}
 use mathlib.Core.List.{List, _∷_, _++_, map, append-assoc}
-use mathlib.Core.Bool.{Bool, true, false}
+use mathlib.Core.Bool.{Bool}
 use native.Mathlib.Omega.{arith}
 use native.Mathlib.Nat.{le-trans, le-of-eq, suc-add}
 use borrow.Author.Tests.{ne-eqb}
 use lib.Ieee.{Float}
 use lib.ListN.{length, take, drop, replicate, length-append, length-drop, length-map, length-replicate, replicate-append-replicate}
-use lib.Seq.{length-take-le, take-append-le, drop-append-le}
+use lib.Seq.{take-append-le, drop-append-le}
 use Rattle.bits.specs.Bits.{numberOf, bitsOf, bytesOf, splice, posOf, bytesWith}
 use Rattle.bits.specs.declared.BitPos.{BitPos}
-use Rattle.bits.specs.declared.BitWrite.{BitWrite}
-use Rattle.bits.specs.declared.BitWrite.the-variants.{Done}
+use Rattle.writer.specs.declared.ChannelWrite.{ChannelWrite}
+use Rattle.writer.specs.declared.ChannelWrite.the-variants.{Done}
 use Rattle.bits.proofs.Laws.{bitsOf-append, length-bitsOf, length-with, splice-read}
-use Rattle.field.specs.Field.{partOf, fieldBits}
-use Rattle.field.proofs.Most.{field-few}
-use Rattle.planner.specs.Bins.{someOver}
-use Rattle.planner.specs.Choice.{choiceBits, Choice}
-use Rattle.planner.specs.Work.{Within}
-use Rattle.planner.specs.Planning.{unknownAt, tooLargeAt, causeOf, planned, totalOf}
-use Rattle.planner.specs.Fit.{planFits}
+use Rattle.planner.specs.Planning.{planned, totalOf}
 use Rattle.planner.specs.declared.Plan.{Plan}
 use Rattle.planner.specs.declared.Planned.{Planned}
-use Rattle.planner.proofs.Answer.{cause-none, refusal-is, answer-fits, answer-choice}
-use Rattle.writer.specs.Written.{gainsOf, fieldOf, channelOf, channelWrite, channelWritten}
-use Rattle.writer.proofs.Call.{count-few, call-good}
-use Rattle.writer.proofs.Channel.{channel-ok, channel-bits, channel-long}
+use Rattle.writer.specs.Written.{fieldOf, channelWrite, channelWritten}
+use Rattle.writer.proofs.Call.{count-few}
+use Rattle.writer.proofs.Planned.{within, fits, field-long as long-field, few-bits as bits-few, is-written as field-written}
 use Rattle.plantext.specs.PlanText.{planText, refusedText}
-use Rattle.desktext.specs.Printed.{valueOf}
-use Rattle.desktext.specs.Channel.{Channel, channel, none, channelIn, textAnswer, rowAfter, vectorsAfter}
+use Rattle.desktext.specs.Printed.{componentOf}
+use Rattle.desktext.specs.Channel.{TextChannel, channel, none, channelIn, textAnswer, rowAfter, vectorsAfter}
 use Rattle.desktext.specs.Desk.{fieldBytes, planAnswer, channelAnswer, deskAnswer}
 use Rattle.desktext.specs.declared.DeskText.{DeskText}
 use Rattle.desktext.proofs.Texts.{text-read}
@@ -80,71 +73,38 @@ module _ (row : List ℕ) (start end : ℕ) (x : List Float) (r : Planned) (is :
     planned-given : planned row start end x .refusal ≡ 0
     planned-given = rw (sym is) given
 
-    no-cause : causeOf row start end x ≡ 0
-    no-cause = sym (refusal-is row start end x) ∙ planned-given
-
-    within : Within row start end x
-    within = cause-none row start end x no-cause .0
-
-    known : someOver (unknownAt row) start end ≡ false
-    known = cause-none row start end x no-cause .1
-
-    inside : someOver (tooLargeAt row x) start end ≡ false
-    inside = cause-none row start end x no-cause .2
-
-    fits : planFits p row start end x ≡ true
-    fits = rw is (answer-fits row start end x planned-given)
-
-    choice : Choice (p .mode) (gainsOf p) row start end
-    choice = rw is (answer-choice row start end x planned-given .0)
-
-    bits : choiceBits (p .mode) (gainsOf p) row x start end ≡ totalOf p
-    bits = rw is (sym (answer-choice row start end x planned-given .1))
-
     pub few-gains : p .count ≤ 256
-    few-gains = count-few p row start end x within fits
+    few-gains = rw is (count-few (planned row start end x .plan) row start end x (within row start end x planned-given) (fits row start end x planned-given))
 
     -- ---- its field
     field-long : length (fieldOf p row start end x) ≡ totalOf p
-    field-long = channel-long (p .mode) (gainsOf p) row x start end (within .bins) (within .rows) (within .vectors) known inside choice ∙ bits
-
-    part-few : length (partOf row start end) ≤ 256
-    part-few =
-        let w = within .few in
-        let b = within .bins in
-        let o = within .rows in
-        le-trans (le-of-eq (length-take-le (end - start) (drop start row) (omega (arith, length-drop start row)))) (omega arith)
+    field-long = rw is (long-field row start end x planned-given)
 
     pub few-bits : totalOf p ≤ 65536
-    few-bits =
-        let c = channelOf row x start end (p .mode) (gainsOf p) in
-        let o = channel-ok (p .mode) (gainsOf p) row x start end (within .bins) (within .rows) (within .vectors) known inside choice in
-        let e : fieldBits (partOf row start end) c ≡ totalOf p =
-        channel-bits (p .mode) (gainsOf p) row x start end (within .bins) (within .rows) (within .vectors) known inside choice ∙ bits in
-        le-trans (le-of-eq (sym e)) (field-few (partOf row start end) c o part-few)
+    few-bits = rw is (bits-few row start end x planned-given)
 
     -- 8,192 bytes hold it
     module _ (room : List ℕ) (zeros : room ≡ replicate 8192 0) where
       long : length room ≡ 8192
       long = ap length zeros ∙ length-replicate {A = ℕ} 8192 0
 
-      is-written : (Done (posOf (0 + totalOf p)) ≡ channelWrite p row start end x room 0) × (bytesWith room 0 (fieldOf p row start end x) ≡ channelWritten p row start end x room 0)
+      is-written : (channelWrite p row start end x room 0 ≡ Done (posOf (0 + totalOf p))) × (channelWritten p row start end x room 0 ≡ bytesWith room 0 (fieldOf p row start end x))
       is-written =
-          let f = few-bits in
+          let f = bits-few row start end x planned-given in
           let l = long in
-          call-good p row start end x room 0 no-cause fits (omega arith) (totalOf p) (posOf (0 + totalOf p)) (bytesWith room 0 (fieldOf p row start end x)) refl (refl, refl)
+          rw is (field-written row start end x planned-given room 0 (omega arith))
 
-      pub never-refused : (w : BitWrite) (k : ℕ) → w ≡ channelWrite p row start end x room 0 → w ≡ BitWrite.Refused k → ⊥
-      never-refused w k e f = no-write (posOf (0 + totalOf p)) k (is-written .0 ∙ sym e ∙ f)
+      pub never-refused : (w : ChannelWrite) (k : ℕ) → w ≡ channelWrite p row start end x room 0 → w ≡ ChannelWrite.Refused k → ⊥
+      never-refused w k e f = no-write (posOf (0 + totalOf p)) k (sym (is-written .0) ∙ sym e ∙ f)
         where
-          no-write : (q : BitPos) (k : ℕ) → Done q ≡ BitWrite.Refused k → ⊥
+          no-write : (q : BitPos) (k : ℕ) → Done q ≡ ChannelWrite.Refused k → ⊥
           no-write q k e = let z : _≡_ {A = ℕ} 0 1 = cc in omega arith
 
       module _ (after : List ℕ) (put : after ≡ channelWritten p row start end x room 0) where
         pub bytes-fit : (totalOf p + 7) / 8 ≤ length after
         bytes-fit =
             let f = few-bits in
-            let l : length after ≡ 8192 = ap length (put ∙ sym (is-written .1)) ∙ length-with room 0 (fieldOf p row start end x) ∙ long in
+            let l : length after ≡ 8192 = ap length (put ∙ is-written .1) ∙ length-with room 0 (fieldOf p row start end x) ∙ long in
             omega arith
 
         pub plan-given : planText p (take ((totalOf p + 7) / 8) after) ≡ planAnswer row start end x
@@ -155,7 +115,7 @@ module _ (row : List ℕ) (start end : ℕ) (x : List Float) (r : Planned) (is :
             let bs = fieldOf p row start end x in
             let l = field-long in
             let b : take n after ≡ fieldBytes bs =
-            ap (take n) (put ∙ sym (is-written .1) ∙ ap (λ (z : List ℕ). bytesWith z 0 bs) zeros)
+            ap (take n) (put ∙ is-written .1 ∙ ap (λ (z : List ℕ). bytesWith z 0 bs) zeros)
             ∙ zeros-front 8192 n bs (omega arith) (omega arith) ∙ ap (λ (m : ℕ). bytesWith (replicate ((m + 7) / 8) 0) 0 bs) (sym l) in
             rw (sym is, given, b)
 
@@ -165,7 +125,7 @@ module _ (s : List ℕ) (r : DeskText) (is : r ≡ textAnswer (channelIn s)) whe
   unfolding deskAnswer
   text-none k e = go (channelIn s) (sym e ∙ is)
     where
-      go : (c : Channel) → DeskText.Refused k ≡ textAnswer c → refusedText k ≡ channelAnswer c
+      go : (c : TextChannel) → DeskText.Refused k ≡ textAnswer c → refusedText k ≡ channelAnswer c
       go none f = let z : k ≡ 13 = cc in ap refusedText z
       go (channel a b row vs) f = absurd (let z : _≡_ {A = ℕ} 0 1 = cc in omega arith)
 
@@ -174,7 +134,7 @@ module _ (s : List ℕ) (r : DeskText) (is : r ≡ textAnswer (channelIn s)) whe
     pub few-numbers : n ≤ 256
     few-numbers = go (channelIn s) refl (sym e ∙ is)
       where
-        go : (c : Channel) → channelIn s ≡ c → DeskText.Channel a b n ≡ textAnswer c → n ≤ 256
+        go : (c : TextChannel) → channelIn s ≡ c → DeskText.Channel a b n ≡ textAnswer c → n ≤ 256
         go none g f = absurd (let z : _≡_ {A = ℕ} 0 1 = cc in omega arith)
         go (channel i j row vs) g f = let z : n ≡ length row = cc in le-trans (le-of-eq z) (text-read s i j row vs .1 g .allowed .few)
 
@@ -183,14 +143,14 @@ module _ (s : List ℕ) (r : DeskText) (is : r ≡ textAnswer (channelIn s)) whe
     unfolding deskAnswer
     text-channel out row xs x er ex = go (channelIn s) refl (sym e ∙ is) er ex
       where
-        go : (c : Channel) → channelIn s ≡ c → DeskText.Channel a b n ≡ textAnswer c → row ≡ rowAfter c out → x ≡ vectorsAfter c xs
+        go : (c : TextChannel) → channelIn s ≡ c → DeskText.Channel a b n ≡ textAnswer c → row ≡ rowAfter c out → x ≡ vectorsAfter c xs
             → planAnswer (take n row) a b (take (6 * n) x) ≡ channelAnswer c
         go none g f er ex = absurd (let z : _≡_ {A = ℕ} 0 1 = cc in omega arith)
         go (channel i j hs vs) g f er ex =
             let za : a ≡ i = cc in
             let zb : b ≡ j = cc in
             let zn : n ≡ length hs = cc in
-            let l : length (map valueOf vs) ≡ 6 * length hs = length-map vs valueOf ∙ text-read s i j hs vs .1 g .allowed .six in
+            let l : length (map componentOf vs) ≡ 6 * length hs = length-map vs componentOf ∙ text-read s i j hs vs .1 g .allowed .six in
             let u : take n row ≡ hs = rw (er, zn) (splice-read out hs 0 (omega arith)) in
-            let v : take (6 * n) x ≡ map valueOf vs = rw (ex, zn, sym l) (splice-read xs (map valueOf vs) 0 (omega arith)) in
+            let v : take (6 * n) x ≡ map componentOf vs = rw (ex, zn, sym l) (splice-read xs (map componentOf vs) 0 (omega arith)) in
             rw (u, v, za, zb)

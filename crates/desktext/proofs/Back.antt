@@ -3,19 +3,20 @@ use Prim.Native.Nat.{ℕ, zero, suc, _+_, _-_, _*_, _≤_, _<_}
 use mathlib.Core.Path.{_≡_, refl, sym, ap, _∙_}
 use mathlib.Core.List.{List, [], _∷_, _++_}
 use mathlib.Core.Bool.{Bool, true, false, cond}
-use mathlib.Core.Logic.{_⊎_, ⊎-elim}
+use mathlib.Core.Logic.{⊎-elim}
 use native.Mathlib.Omega.{arith}
 use lib.ListN.{length, length-append}
 use lib.Dec.{leb, eqb}
 use borrow.Author.Tests.{le-leb, eq-eqb, ne-eqb, leb-true, leb-false}
-use Rattle.desktext.specs.Spelling.{largest, lastNumber, closeToken, AllDigits, numberOf, Digits, Word, plain, minus, channelName, binsName, rowName, vectorName, Spelt, end, endLine, close, closeLine, space, line, TextOf, text, nested}
-use Rattle.desktext.specs.Text.{Seen, seen, unseen, orElse, leads, named, digit, digits, natural, above, number, itemHead, bracket, closing, got, after, ending, step, rest, tokens}
-use Rattle.desktext.proofs.Laws.{no-true, rest-close, rest-number, rest-form}
+use Rattle.desktext.specs.Spelling.{largest, lastNumber, closeToken, AllDigits, decimalValue, Digits, Word, plain, minus, channelName, binsName, rowName, vectorName, Spelt, end, endLine, close, closeLine, space, line, TextOf, text, nested}
+use Rattle.desktext.specs.Text.{Seen, seen, unseen, orElse, leads, named, isDigit, digits, natural, above, numberSeen, itemHead, bracket, closing, got, after, ending, step, rest, tokens}
+use Rattle.desktext.proofs.Laws.{no-true, number-plain, number-less, bracket-other}
+use Rattle.desktext.proofs.Steps.{rest-close, rest-number, rest-form}
 
 -- no digit stands first
 Cut : List ℕ → Type 0
 Cut [] = Unit {0}
-Cut (b ∷ s) = digit b ≡ false
+Cut (b ∷ s) = isDigit b ≡ false
 
 cut : (ts s : List ℕ) → Spelt ts s → Cut s
 unfolding Cut
@@ -26,8 +27,8 @@ cut ts s (closeLine r) = refl
 cut ts s (space w r) = refl
 cut ts s (line w r) = refl
 
-number-grows : (v : ℕ) (ds : List ℕ) → v ≤ numberOf v ds
-unfolding numberOf
+number-grows : (v : ℕ) (ds : List ℕ) → v ≤ decimalValue v ds
+unfolding decimalValue
 number-grows v [] = omega arith
 number-grows v (d ∷ ds) = let h = number-grows (v * 10 + (d - 48)) ds in omega arith
 
@@ -36,8 +37,8 @@ unfolding digits Cut
 stop v [] c = refl
 stop v (b ∷ r) c = rw c
 
-digits-back : (v : ℕ) (ds r : List ℕ) → AllDigits ds → Cut r → numberOf v ds ≤ largest → digits v (ds ++ r) ≡ seen (numberOf v ds) r
-unfolding digits AllDigits numberOf
+digits-back : (v : ℕ) (ds r : List ℕ) → AllDigits ds → Cut r → decimalValue v ds ≤ largest → digits v (ds ++ r) ≡ seen (decimalValue v ds) r
+unfolding digits AllDigits decimalValue
 digits-back v [] r a c h = stop v r c
 digits-back v (d ∷ ds) r a c h =
     let m = number-grows (v * 10 + (d - 48)) ds in
@@ -49,18 +50,18 @@ unfolding natural Digits
 natural-back m [] r a c = absurd a
 natural-back m (d ∷ ds) r a c = ⊎-elim (λ i. zeros i) (λ i. more i) a
   where
-    zeros : (d ≡ 48) × (ds ≡ []) × (m ≡ 0) → cond (eqb d 48) (seen 0 (ds ++ r)) (cond (digit d) (digits (d - 48) (ds ++ r)) unseen) ≡ seen m r
+    zeros : (d ≡ 48) × (ds ≡ []) × (m ≡ 0) → cond (eqb d 48) (seen 0 (ds ++ r)) (cond (isDigit d) (digits (d - 48) (ds ++ r)) unseen) ≡ seen m r
     zeros i =
         let e = i .1 in
         let f : ds ++ r ≡ r = ap (λ (l : List ℕ). l ++ r) e in
         rw (eq-eqb d 48 (i .0), f, i .2)
 
-    more : (48 < d) × (d ≤ 57) × AllDigits ds × (m ≡ numberOf (d - 48) ds) × (m ≤ largest) → cond (eqb d 48) (seen 0 (ds ++ r)) (cond (digit d) (digits (d - 48) (ds ++ r)) unseen) ≡ seen m r
+    more : (48 < d) × (d ≤ 57) × AllDigits ds × (m ≡ decimalValue (d - 48) ds) × (m ≤ largest) → cond (eqb d 48) (seen 0 (ds ++ r)) (cond (isDigit d) (digits (d - 48) (ds ++ r)) unseen) ≡ seen m r
     more i =
         let p = i .0 in
         let e = i .3 in
         let l = i .4 in
-        let h : numberOf (d - 48) ds ≤ largest = omega arith in
+        let h : decimalValue (d - 48) ds ≤ largest = omega arith in
         rw (ne-eqb d 48 (λ f. omega arith), le-leb 48 d (omega arith), le-leb d 57 (i .1), e) (digits-back (d - 48) ds r (i .2) c h)
 
 -- the first byte of a number's digits
@@ -69,24 +70,12 @@ unfolding Digits
 digits-head m [] a = absurd a
 digits-head m (d ∷ ds) a = (d, ds, refl, ⊎-elim (λ i. let e = i .0 in omega arith) (λ i. let e = i .0 in omega arith) a)
 
--- neither a name nor a bracket begins with another byte
+-- a name begins with no other byte
 named-no : (d : ℕ) (s : List ℕ) → (40 ≡ d → ⊥) → named (d ∷ s) ≡ unseen
 unfolding named leads
 named-no d s n = rw (ne-eqb 40 d n)
 
-bracket-no : (d : ℕ) (s : List ℕ) → (d ≡ 41 → ⊥) → bracket (d ∷ s) ≡ unseen
-unfolding bracket
-bracket-no d s n = rw (ne-eqb d 41 n)
-
-number-plain : (d : ℕ) (s : List ℕ) → (d ≡ 45 → ⊥) → number (d ∷ s) ≡ above (natural (d ∷ s))
-unfolding number
-number-plain d s n = rw (ne-eqb d 45 n)
-
-number-minus : (m : ℕ) (s r : List ℕ) → natural s ≡ seen m r → (m ≡ 0 → ⊥) → number (45 ∷ s) ≡ seen (largest - m) r
-unfolding number
-number-minus m s r e n = rw (e, ne-eqb m 0 n)
-
-word-back : (t : ℕ) (w r : List ℕ) → Word t w → Cut r → orElse (named (w ++ r)) (number (w ++ r)) ≡ seen t r
+word-back : (t : ℕ) (w r : List ℕ) → Word t w → Cut r → orElse (named (w ++ r)) (numberSeen (w ++ r)) ≡ seen t r
 unfolding named leads
 word-back t w r (plain m e a) c =
     let x = digits-head m w a in
@@ -94,13 +83,13 @@ word-back t w r (plain m e a) c =
     let l = x .3 in
     let f : w ++ r ≡ d ∷ (x .1 ++ r) = ap (λ (k : List ℕ). k ++ r) (x .2) in
     let g : named (w ++ r) ≡ unseen = ap named f ∙ named-no d (x .1 ++ r) (λ i. omega arith) in
-    let h : number (w ++ r) ≡ above (natural (w ++ r)) = ap number f ∙ number-plain d (x .1 ++ r) (λ i. omega arith) ∙ ap (λ (k : List ℕ). above (natural k)) (sym f) in
-    ap (λ (k : Seen). orElse k (number (w ++ r))) g ∙ h ∙ ap above (natural-back m w r a c) ∙ ap (λ (k : ℕ). seen k r) (sym e)
+    let h : numberSeen (w ++ r) ≡ above (natural (w ++ r)) = ap numberSeen f ∙ number-plain (d ∷ (x .1 ++ r)) 0 (omega arith) (λ i. omega arith) ∙ ap (λ (k : List ℕ). above (natural k)) (sym f) in
+    ap (λ (k : Seen). orElse k (numberSeen (w ++ r))) g ∙ h ∙ ap above (natural-back m w r a c) ∙ ap (λ (k : ℕ). seen k r) (sym e)
 word-back t w r (minus m v e f n a) c =
     let g : w ++ r ≡ 45 ∷ (v ++ r) = ap (λ (k : List ℕ). k ++ r) e in
-    let h : number (w ++ r) ≡ seen (largest - m) r = ap number g ∙ number-minus m (v ++ r) r (natural-back m v r a c) n in
+    let h : numberSeen (w ++ r) ≡ seen (largest - m) r = ap numberSeen g ∙ number-less (45 ∷ (v ++ r)) 0 (omega arith) refl m r (sym (natural-back m v r a c)) n in
     let i : named (w ++ r) ≡ unseen = ap named g ∙ named-no 45 (v ++ r) (λ k. omega arith) in
-    ap (λ (k : Seen). orElse k (number (w ++ r))) i ∙ h ∙ ap (λ (k : ℕ). seen k r) (sym f)
+    ap (λ (k : Seen). orElse k (numberSeen (w ++ r))) i ∙ h ∙ ap (λ (k : ℕ). seen k r) (sym f)
 word-back t w r (channelName e f) c = rw (e, f)
 word-back t w r (binsName e f) c = rw (e, f)
 word-back t w r (rowName e f) c = rw (e, f)
@@ -111,7 +100,7 @@ unfolding bracket
 word-open t w r (plain m e a) =
     let x = digits-head m w a in
     let l = x .3 in
-    ap (λ (k : List ℕ). bracket (k ++ r)) (x .2) ∙ bracket-no (x .0) (x .1 ++ r) (λ i. omega arith)
+    ap (λ (k : List ℕ). bracket (k ++ r)) (x .2) ∙ bracket-other (x .0 ∷ (x .1 ++ r)) 0 (omega arith) (λ i. omega arith)
 word-open t w r (minus m v e f n a) = rw e
 word-open t w r (channelName e f) = rw f
 word-open t w r (binsName e f) = rw f
@@ -141,32 +130,8 @@ item-back n d t ts s x c e l h more = go (leb t lastNumber) (leb 4 (suc d)) refl
     go false true f g i = no-true i
     go false false f g i = rest-form n d x t s c e (leb-false _ _ f) (leb-false _ _ g) ∙ ap (after (t ∷ [])) (more (suc (suc d)) i)
 
-head-space : (x : List ℕ) → itemHead (32 ∷ x) ≡ orElse (named x) (number x)
-unfolding itemHead
-head-space x = refl
-
-head-line : (x : List ℕ) → itemHead (10 ∷ x) ≡ orElse (named x) (number x)
-unfolding itemHead
-head-line x = refl
-
-open-space : (x : List ℕ) → closing (32 ∷ x) ≡ unseen
-unfolding closing bracket
-open-space x = refl
-
-open-line : (x : List ℕ) → closing (10 ∷ x) ≡ bracket x
-unfolding closing
-open-line x = refl
-
-shut : (x : List ℕ) → closing (41 ∷ x) ≡ seen closeToken x
-unfolding closing bracket
-shut x = refl
-
-shut-line : (x : List ℕ) → closing (10 ∷ 41 ∷ x) ≡ seen closeToken x
-unfolding closing bracket
-shut-line x = refl
-
 rest-back : (n d : ℕ) (ts s : List ℕ) → Spelt ts s → nested d ts ≡ true → length ts < n → rest n d s ≡ got ts
-unfolding rest step ending nested
+unfolding rest step ending nested closing bracket itemHead
 rest-back zero d ts s sp e h = absurd (omega arith)
 rest-back (suc n) zero ts s end e h = refl
 rest-back (suc n) zero ts s endLine e h = refl
@@ -177,13 +142,13 @@ rest-back (suc n) zero ts s (line w r) e h = no-true e
 rest-back (suc n) (suc d) ts s end e h = no-true e
 rest-back (suc n) (suc d) ts s endLine e h = no-true e
 rest-back (suc n) (suc d) ts s (close {ts = us} {s = x} r) e h =
-    rest-close n d (41 ∷ x) closeToken x (shut x) ∙ ap (after (closeToken ∷ [])) (rest-back n d us x r e (omega arith))
+    rest-close n d (41 ∷ x) closeToken x refl ∙ ap (after (closeToken ∷ [])) (rest-back n d us x r e (omega arith))
 rest-back (suc n) (suc d) ts s (closeLine {ts = us} {s = x} r) e h =
-    rest-close n d (10 ∷ 41 ∷ x) closeToken x (shut-line x) ∙ ap (after (closeToken ∷ [])) (rest-back n d us x r e (omega arith))
+    rest-close n d (10 ∷ 41 ∷ x) closeToken x refl ∙ ap (after (closeToken ∷ [])) (rest-back n d us x r e (omega arith))
 rest-back (suc n) (suc d) ts s (space {t = t} {ts = us} {w = v} {s = x} w r) e h =
-    item-back n d t us x (32 ∷ (v ++ x)) (open-space (v ++ x)) (head-space (v ++ x) ∙ word-back t v x w (cut us x r)) (word-token t v w) e (λ k f. rest-back n k us x r f (omega arith))
+    item-back n d t us x (32 ∷ (v ++ x)) refl (word-back t v x w (cut us x r)) (word-token t v w) e (λ k f. rest-back n k us x r f (omega arith))
 rest-back (suc n) (suc d) ts s (line {t = t} {ts = us} {w = v} {s = x} w r) e h =
-    item-back n d t us x (10 ∷ (v ++ x)) (open-line (v ++ x) ∙ word-open t v x w) (head-line (v ++ x) ∙ word-back t v x w (cut us x r)) (word-token t v w) e (λ k f. rest-back n k us x r f (omega arith))
+    item-back n d t us x (10 ∷ (v ++ x)) (word-open t v x w) (word-back t v x w (cut us x r)) (word-token t v w) e (λ k f. rest-back n k us x r f (omega arith))
 
 -- a text is no shorter than its tokens
 longer : (ts s : List ℕ) → Spelt ts s → length ts ≤ length s

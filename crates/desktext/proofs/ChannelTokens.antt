@@ -4,14 +4,13 @@ use mathlib.Core.Path.{_≡_, refl, sym, ap, _∙_, subst}
 use mathlib.Core.List.{List, [], _∷_, _++_, map}
 use mathlib.Core.Bool.{Bool, true, false, cond}
 use native.Mathlib.Omega.{arith}
-use lib.ListN.{getD, length, take, drop, length-map, length-drop, length-append}
+use lib.ListN.{getD, length, take, drop, length-map, length-drop, length-append, take-append-drop}
 use lib.Seq.{length-take-le, take-at, drop-at}
 use lib.Dec.{leb, eqb}
 use borrow.Author.Tests.{le-leb, eq-eqb, ne-eqb, eqb-true, leb-true}
 use Rattle.desktext.specs.Spelling.{largest, lastNumber, channelToken, binsToken, rowToken, vectorToken, closeToken}
-use Rattle.desktext.specs.Printed.{AllIn, form, vectorForms, channelTokens, Allowed}
-use Rattle.desktext.specs.Text.{tokens}
-use Rattle.desktext.specs.Channel.{Part, part, missing, lead, items, numbers, onVector, vectors, closes, channel, none, onVectors, onRow, onBins, channelOf}
+use Rattle.desktext.specs.Printed.{AllIn, form, vectorForms, channelTokens, InLimits}
+use Rattle.desktext.specs.Channel.{Part, part, missing, lead, items, numbers, onVector, vectors, closes, channel, none, onVectors, onRow, onBins, channelFrom}
 use Rattle.desktext.proofs.Laws.{no-true}
 
 no-part : {A : Type 0} (xs r : List ℕ) → missing ≡ part xs r → A
@@ -82,11 +81,6 @@ all-at low high [] i a h = absurd (omega arith)
 all-at low high (x ∷ xs) zero a h = (a .0, a .1)
 all-at low high (x ∷ xs) (suc i) a h = all-at low high xs i (a .2) (omega arith)
 
-rejoin : (n : ℕ) (xs : List ℕ) → take n xs ++ drop n xs ≡ xs
-rejoin zero xs = refl
-rejoin (suc n) [] = refl
-rejoin (suc n) (x ∷ xs) = ap (λ (l : List ℕ). x ∷ l) (rejoin n xs)
-
 vectors-back : (n : ℕ) (vs : List ℕ) → length vs ≡ 6 * n → AllIn 0 lastNumber vs → vectors n (vectorForms n vs) ≡ part vs []
 unfolding vectors vectorForms closes
 vectors-back zero [] e a = refl
@@ -97,7 +91,7 @@ vectors-back (suc n) vs e a =
     let p : numbers vectorToken 0 lastNumber (form vectorToken (take 6 vs) (vectorForms n (drop 6 vs))) ≡ part (take 6 vs) (vectorForms n (drop 6 vs)) =
     numbers-back vectorToken 0 lastNumber (take 6 vs) (vectorForms n (drop 6 vs)) (omega arith) (all-take 0 lastNumber 6 vs a) in
     let q : vectors n (vectorForms n (drop 6 vs)) ≡ part (drop 6 vs) [] = vectors-back n (drop 6 vs) d (all-drop 0 lastNumber 6 vs a) in
-    ap (onVector (vectors n)) p ∙ rw (eq-eqb (length (take 6 vs)) 6 l) (ap (lead (take 6 vs)) q ∙ ap (λ (x : List ℕ). part x []) (rejoin 6 vs))
+    ap (onVector (vectors n)) p ∙ rw (eq-eqb (length (take 6 vs)) 6 l) (ap (lead (take 6 vs)) q ∙ ap (λ (x : List ℕ). part x []) (take-append-drop 6 vs))
 
 closes-sole : (ts : List ℕ) → closes ts ≡ true → ts ≡ closeToken ∷ []
 unfolding closes
@@ -167,8 +161,8 @@ row-sole (t ∷ ts) a =
     let f = n .0 in
     (cc, (omega arith, omega arith, n .1))
 
-pub channel-back : (a b : ℕ) (row vs : List ℕ) → Allowed a b row vs → channelOf (channelTokens a b row vs) ≡ channel a b row vs
-unfolding channelOf channelTokens AllIn
+pub channel-back : (a b : ℕ) (row vs : List ℕ) → InLimits a b row vs → channelFrom (channelTokens a b row vs) ≡ channel a b row vs
+unfolding channelFrom channelTokens AllIn
 channel-back a b row vs ok =
     let f = ok .start in
     let l = ok .end in
@@ -230,7 +224,7 @@ row-then x y R a b row vs e = go (numbers rowToken largest (largest + 255) R) re
                 (u, v, subst (λ (l : List ℕ). RowThen R l vs) s (subst (λ (l : List ℕ). RowThen R (map (λ t. t - largest) ts) l) t w))
 
 abbrev pub Sole : List ℕ → ℕ → ℕ → List ℕ → List ℕ → Type 0
-Sole ts a b row vs = (ts ≡ channelTokens a b row vs) × Allowed a b row vs
+Sole ts a b row vs = (ts ≡ channelTokens a b row vs) × InLimits a b row vs
 
 bins-then : (ts ab R : List ℕ) (a b : ℕ) (row vs : List ℕ) → ts ≡ channelToken ∷ form binsToken ab R → AllIn largest lastNumber ab
     → onBins (part ab R) ≡ channel a b row vs → Sole ts a b row vs
@@ -256,8 +250,8 @@ bins-then ts (x ∷ y ∷ z ∷ w) R a b row vs e i g = no-channel a b row vs (t
     three : cond (eqb (suc (suc (suc (length w)))) 2) (onRow (x - largest) (y - largest) (numbers rowToken largest (largest + 255) R)) none ≡ channel a b row vs → none ≡ channel a b row vs
     three h = rw (ne-eqb (suc (suc (suc (length w)))) 2 (λ k. omega arith)) at h
 
-pub channel-sole : (ts : List ℕ) (a b : ℕ) (row vs : List ℕ) → channelOf ts ≡ channel a b row vs → Sole ts a b row vs
-unfolding channelOf
+pub channel-sole : (ts : List ℕ) (a b : ℕ) (row vs : List ℕ) → channelFrom ts ≡ channel a b row vs → Sole ts a b row vs
+unfolding channelFrom
 channel-sole [] a b row vs e = no-channel a b row vs e
 channel-sole (t ∷ ts) a b row vs e = go (eqb t channelToken) refl e
   where

@@ -8,9 +8,9 @@ use lib.Ieee.{Float, nan, inf, fin, binary32, ofInt, div, neg}
 use lib.Ieee.Exact.{HasValue}
 use borrow.Author.Tests.{le-leb, lt-leb}
 use Rattle.levels.specs.Value.{f32768, q15}
-use Rattle.fractions.proofs.Quotients.{positive-exact}
+use Rattle.books.proofs.Quotients.{positive-exact}
 use Rattle.desktext.specs.Spelling.{largest, lastNumber}
-use Rattle.desktext.specs.Printed.{valueOf}
+use Rattle.desktext.specs.Printed.{componentOf}
 
 size : (m : ℕ) → m ≤ 2 ^ 24 → HasValue (div binary32 (ofInt binary32 (pos m)) f32768) false m 32768
 unfolding q15
@@ -24,6 +24,6 @@ negated (fin true m e) a c v = absurd (true≢false (v .0))
 negated (fin false m e) a c v = (refl, v .1)
 
 -- the f32 of a token is the number t - 16777216, over 32768
-pub component-exact : (t : ℕ) → t ≤ lastNumber → (largest ≤ t → HasValue (valueOf t) false (t - largest) 32768) × (t < largest → HasValue (valueOf t) true (largest - t) 32768)
-unfolding valueOf
+pub component-exact : (t : ℕ) → t ≤ lastNumber → (largest ≤ t → HasValue (componentOf t) false (t - largest) 32768) × (t < largest → HasValue (componentOf t) true (largest - t) 32768)
+unfolding componentOf
 component-exact t h = (λ l. rw (le-leb largest t l) (size (t - largest) (omega arith)), λ l. rw (lt-leb largest t l) (negated _ (largest - t) 32768 (size (largest - t) (omega arith))))

@@ -6,47 +6,25 @@ use mathlib.Core.Bool.{Bool, true, false, cond}
 use native.Mathlib.Omega.{arith}
 use native.Mathlib.Numerals.{add-one, add-one-le}
 use lib.ListN.{length, take, drop, getD, length-drop}
-use lib.Seq.{take-suc, drop-drop, getD-drop, length-take-le, getD-take}
+use lib.Seq.{take-suc, drop-drop, getD-drop}
 use lib.Dec.{leb, eqb}
 use lib.Arith.{lt-of-le-ne}
 use borrow.Author.Tests.{le-leb, lt-leb, eq-eqb, ne-eqb, leb-true, leb-false}
 use Rattle.desktext.specs.Spelling.{largest, lastNumber, channelToken, binsToken, rowToken, vectorToken, closeToken}
-use Rattle.desktext.specs.Channel.{Part, part, missing, lead, items, numbers, vectors, closes, channel, none, onVectors, onRow, onBins, channelOf}
-use Rattle.desktext.specs.Shown.{vectorNumbers, endsIn, partIn, Holds, Stands}
+use Rattle.desktext.specs.Channel.{Part, part, missing, lead, items, numbers, vectors, closes, none, onVectors, onRow, onBins, channelFrom}
+use Rattle.desktext.specs.Work.{vectorNumbers, endsIn, partIn, Holds, Stands}
 use Rattle.desktext.specs.declared.Counted.{Counted}
 use Rattle.desktext.specs.declared.Counted.the-variants.{Count, Broken}
 use Rattle.desktext.proofs.ChannelTokens.{all-at, numbers-sole}
-use Rattle.desktext.proofs.Laws.{none-at, one-at}
+use Rattle.desktext.proofs.Laws.{none-at, one-at, part-long, part-at}
 
-pub lead-lead : (xs ys : List ℕ) (p : Part) → lead xs (lead ys p) ≡ lead (xs ++ ys) p
+lead-lead : (xs ys : List ℕ) (p : Part) → lead xs (lead ys p) ≡ lead (xs ++ ys) p
 lead-lead xs ys (part zs r) = ap (λ (l : List ℕ). part l r) (sym (append-assoc xs ys zs))
 lead-lead xs ys missing = refl
 
-pub lead-nil : (p : Part) → lead [] p ≡ p
+lead-nil : (p : Part) → lead [] p ≡ p
 lead-nil (part zs r) = refl
 lead-nil missing = refl
-
-module _ (low high : ℕ) (ts : List ℕ) (p : ℕ) where
-  pub items-end : length ts ≤ p → items low high (drop p ts) ≡ missing
-  unfolding items
-  items-end e = rw (none-at ts p e)
-
-  pub items-close : p < length ts → getD ts p 0 ≡ closeToken → items low high (drop p ts) ≡ part [] (drop (p + 1) ts)
-  unfolding items
-  items-close h e = rw (one-at ts p h, eq-eqb (getD ts p 0) closeToken e)
-
-  pub items-low : p < length ts → (getD ts p 0 ≡ closeToken → ⊥) → getD ts p 0 < low → items low high (drop p ts) ≡ missing
-  unfolding items
-  items-low h n e = rw (one-at ts p h, ne-eqb (getD ts p 0) closeToken n, lt-leb low (getD ts p 0) e)
-
-  pub items-high : p < length ts → (getD ts p 0 ≡ closeToken → ⊥) → low ≤ getD ts p 0 → high < getD ts p 0 → items low high (drop p ts) ≡ missing
-  unfolding items
-  items-high h n e f = rw (one-at ts p h, ne-eqb (getD ts p 0) closeToken n, le-leb low (getD ts p 0) e, lt-leb (getD ts p 0) high f)
-
-  pub items-more : p < length ts → (getD ts p 0 ≡ closeToken → ⊥) → low ≤ getD ts p 0 → getD ts p 0 ≤ high
-      → items low high (drop p ts) ≡ lead (getD ts p 0 ∷ []) (items low high (drop (p + 1) ts))
-  unfolding items
-  items-more h n e f = rw (one-at ts p h, ne-eqb (getD ts p 0) closeToken n, le-leb low (getD ts p 0) e, le-leb (getD ts p 0) high f)
 
 -- a form's numbers one after the other: n of them stand from at + 1 on
 module _ (name low high : ℕ) (ts : List ℕ) (at : ℕ) where
@@ -66,42 +44,50 @@ module _ (name low high : ℕ) (ts : List ℕ) (at : ℕ) where
 
   module _ (there : Part) (n : ℕ) (so : there ≡ lead (take n (drop (at + 1) ts)) (items low high (drop (at + 1 + n) ts))) where
     pub run-end : length ts ≤ at + 1 + n → there ≡ missing
-    run-end h = so ∙ ap (lead (take n (drop (at + 1) ts))) (items-end low high ts (at + 1 + n) h)
+    unfolding items
+    run-end h = so ∙ rw (none-at ts (at + 1 + n) h)
 
     module _ (h : at + 1 + n < length ts) where
       pub run-close : getD ts (at + 1 + n) 0 ≡ closeToken → there ≡ part (take n (drop (at + 1) ts)) (drop (at + 1 + n + 1) ts)
+      unfolding items
       run-close e =
-          so ∙ ap (lead (take n (drop (at + 1) ts))) (items-close low high ts (at + 1 + n) h e)
-          ∙ ap (λ (l : List ℕ). part l (drop (at + 1 + n + 1) ts)) (append-nil (take n (drop (at + 1) ts)))
+          so ∙ rw (one-at ts (at + 1 + n) h, eq-eqb (getD ts (at + 1 + n) 0) closeToken e)
+          (ap (λ (l : List ℕ). part l (drop (at + 1 + n + 1) ts)) (append-nil (take n (drop (at + 1) ts))))
 
       pub run-low : (getD ts (at + 1 + n) 0 ≡ closeToken → ⊥) → getD ts (at + 1 + n) 0 < low → there ≡ missing
-      run-low e f = so ∙ ap (lead (take n (drop (at + 1) ts))) (items-low low high ts (at + 1 + n) h e f)
+      unfolding items
+      run-low e f = so ∙ rw (one-at ts (at + 1 + n) h, ne-eqb (getD ts (at + 1 + n) 0) closeToken e, lt-leb low (getD ts (at + 1 + n) 0) f)
 
       pub run-high : (getD ts (at + 1 + n) 0 ≡ closeToken → ⊥) → low ≤ getD ts (at + 1 + n) 0 → high < getD ts (at + 1 + n) 0 → there ≡ missing
-      run-high e f g = so ∙ ap (lead (take n (drop (at + 1) ts))) (items-high low high ts (at + 1 + n) h e f g)
+      unfolding items
+      run-high e f g =
+          so ∙ rw (one-at ts (at + 1 + n) h, ne-eqb (getD ts (at + 1 + n) 0) closeToken e, le-leb low (getD ts (at + 1 + n) 0) f, lt-leb (getD ts (at + 1 + n) 0) high g)
 
       pub run-more : (getD ts (at + 1 + n) 0 ≡ closeToken → ⊥) → low ≤ getD ts (at + 1 + n) 0 → getD ts (at + 1 + n) 0 ≤ high
           → there ≡ lead (take (n + 1) (drop (at + 1) ts)) (items low high (drop (at + 1 + (n + 1)) ts))
+      unfolding items
       run-more e f g =
           let i : n < length (drop (at + 1) ts) = omega (arith, length-drop (at + 1) ts) in
           let k : take (n + 1) (drop (at + 1) ts) ≡ take n (drop (at + 1) ts) ++ (getD ts (at + 1 + n) 0 ∷ []) =
           rw (add-one n, take-suc (drop (at + 1) ts) n 0 i, getD-drop) in
           let z : at + 1 + (n + 1) ≡ at + 1 + n + 1 = omega arith in
-          so ∙ ap (lead (take n (drop (at + 1) ts))) (items-more low high ts (at + 1 + n) h e f g)
-          ∙ lead-lead (take n (drop (at + 1) ts)) (getD ts (at + 1 + n) 0 ∷ []) (items low high (drop (at + 1 + n + 1) ts))
-          ∙ rw (k, z)
+          so ∙ rw (one-at ts (at + 1 + n) h, ne-eqb (getD ts (at + 1 + n) 0) closeToken e, le-leb low (getD ts (at + 1 + n) 0) f, le-leb (getD ts (at + 1 + n) 0) high g, k, z)
+          (lead-lead (take n (drop (at + 1) ts)) (getD ts (at + 1 + n) 0 ∷ []) (items low high (drop (at + 1 + n + 1) ts)))
 
--- what the answer of a run says
-pub holds-count : (ts : List ℕ) (at name low high : ℕ) (r : Counted) (n : ℕ) → Holds ts at (numbers name low high (drop at ts)) r → r ≡ Count n
-    → (part (take n (drop (at + 1) ts)) (drop (at + 1 + n + 1) ts) ≡ numbers name low high (drop at ts)) × (at + 1 + n < length ts)
+-- what the answer on a form says: its n numbers stand there
+abbrev pub NumbersAt : List ℕ → ℕ → ℕ → ℕ → ℕ → ℕ → Type 0
+NumbersAt ts at name low high n =
+    (part (take n (drop (at + 1) ts)) (drop (at + 1 + n + 1) ts) ≡ numbers name low high (drop at ts)) × (at + 1 + n < length ts)
     × ((i : ℕ) → i < n → (low ≤ getD ts (at + 1 + i) 0) × (getD ts (at + 1 + i) 0 ≤ high))
+
+pub holds-count : (ts : List ℕ) (at name low high : ℕ) (r : Counted) (n : ℕ) → Holds ts at (numbers name low high (drop at ts)) r → r ≡ Count n
+    → NumbersAt ts at name low high n
 holds-count ts at name low high r n h e =
     let a : partIn ts at (Count n) ≡ numbers name low high (drop at ts) = rw e at (h .shown) in
     let b : endsIn ts at (Count n) = rw e at (h .within) in
-    let l : length (take n (drop (at + 1) ts)) ≡ n = length-take-le n (drop (at + 1) ts) (omega (arith, length-drop (at + 1) ts)) in
+    let l : length (take n (drop (at + 1) ts)) ≡ n = part-long ts (at + 1) n (omega arith) in
     let m = numbers-sole name low high (drop at ts) _ _ (sym a) .1 in
-    let g : (i : ℕ) → i < n → getD (take n (drop (at + 1) ts)) i 0 ≡ getD ts (at + 1 + i) 0 = λ i k. getD-take n (drop (at + 1) ts) i 0 k ∙ getD-drop (at + 1) ts i 0 in
-    (a, b, λ i k. subst (λ (x : ℕ). (low ≤ x) × (x ≤ high)) (g i k) (all-at low high (take n (drop (at + 1) ts)) i m (omega arith)))
+    (a, b, λ i k. subst (λ (x : ℕ). (low ≤ x) × (x ≤ high)) (part-at ts (at + 1) n i k) (all-at low high (take n (drop (at + 1) ts)) i m (omega arith)))
 
 pub holds-none : (ts : List ℕ) (at : ℕ) (there : Part) (r : Counted) → Holds ts at there r → r ≡ Broken → missing ≡ there
 holds-none ts at there r h e = rw e at (h .shown)
@@ -156,7 +142,7 @@ module _ (ts : List ℕ) (at n i p : ℕ) (there : Part) (so : there ≡ lead (v
 
     module _ (k : ℕ) (is : part (take k (drop (p + 1) ts)) (drop (p + 1 + k + 1) ts) ≡ numbers vectorToken 0 lastNumber (drop p ts)) (fit : p + 1 + k < length ts) where
       long : length (take k (drop (p + 1) ts)) ≡ k
-      long = length-take-le k (drop (p + 1) ts) (omega (arith, length-drop (p + 1) ts))
+      long = part-long ts (p + 1) k (omega arith)
 
       pub vectors-uneven : (k ≡ 6 → ⊥) → there ≡ missing
       vectors-uneven e =
@@ -200,51 +186,51 @@ unfolding vectorNumbers
 vectors-start ts at n = let z : n - 0 ≡ n = omega arith in rw z (sym (lead-nil (vectors n (drop at ts))))
 
 -- a channel by its cases
-pub channel-empty : (ts : List ℕ) → length ts ≡ 0 → channelOf ts ≡ none
-unfolding channelOf
+pub channel-empty : (ts : List ℕ) → length ts ≡ 0 → channelFrom ts ≡ none
+unfolding channelFrom
 channel-empty [] e = refl
 channel-empty (t ∷ ts) e = absurd (omega arith)
 
 module _ (ts : List ℕ) (h : 0 < length ts) where
-  pub channel-other : (getD ts 0 0 ≡ channelToken → ⊥) → channelOf ts ≡ none
-  unfolding channelOf
-  channel-other n = let c : ts ≡ getD ts 0 0 ∷ drop 1 ts = one-at ts 0 h in ap channelOf c ∙ rw (ne-eqb (getD ts 0 0) channelToken n)
+  pub channel-other : (getD ts 0 0 ≡ channelToken → ⊥) → channelFrom ts ≡ none
+  unfolding channelFrom
+  channel-other n = let c : ts ≡ getD ts 0 0 ∷ drop 1 ts = one-at ts 0 h in ap channelFrom c ∙ rw (ne-eqb (getD ts 0 0) channelToken n)
 
   module _ (e : getD ts 0 0 ≡ channelToken) where
-    channel-is : channelOf ts ≡ onBins (numbers binsToken largest lastNumber (drop 1 ts))
-    unfolding channelOf
-    channel-is = let c : ts ≡ getD ts 0 0 ∷ drop 1 ts = one-at ts 0 h in ap channelOf c ∙ rw (eq-eqb (getD ts 0 0) channelToken e)
+    channel-is : channelFrom ts ≡ onBins (numbers binsToken largest lastNumber (drop 1 ts))
+    unfolding channelFrom
+    channel-is = let c : ts ≡ getD ts 0 0 ∷ drop 1 ts = one-at ts 0 h in ap channelFrom c ∙ rw (eq-eqb (getD ts 0 0) channelToken e)
 
-    pub channel-no-bins : missing ≡ numbers binsToken largest lastNumber (drop 1 ts) → channelOf ts ≡ none
+    pub channel-no-bins : missing ≡ numbers binsToken largest lastNumber (drop 1 ts) → channelFrom ts ≡ none
     channel-no-bins f = channel-is ∙ ap onBins (sym f)
 
     module _ (k : ℕ) (bins : part (take k (drop 2 ts)) (drop (2 + k + 1) ts) ≡ numbers binsToken largest lastNumber (drop 1 ts)) (fit : 2 + k < length ts) where
       two : length (take k (drop 2 ts)) ≡ k
-      two = length-take-le k (drop 2 ts) (omega (arith, length-drop 2 ts))
+      two = part-long ts 2 k (omega arith)
 
-      pub channel-uneven : (k ≡ 2 → ⊥) → channelOf ts ≡ none
+      pub channel-uneven : (k ≡ 2 → ⊥) → channelFrom ts ≡ none
       channel-uneven n = channel-is ∙ ap onBins (sym bins) ∙ rw (ne-eqb (length (take k (drop 2 ts))) 2 (λ f. n (sym two ∙ f)))
 
-      pub channel-row : k ≡ 2 → channelOf ts ≡ onRow (getD ts 2 0 - largest) (getD ts 3 0 - largest) (numbers rowToken largest (largest + 255) (drop 5 ts))
+      pub channel-row : k ≡ 2 → channelFrom ts ≡ onRow (getD ts 2 0 - largest) (getD ts 3 0 - largest) (numbers rowToken largest (largest + 255) (drop 5 ts))
       channel-row pair =
           let z : 2 + k + 1 ≡ 5 = omega arith in
-          let first = getD-take k (drop 2 ts) 0 0 (omega arith) ∙ getD-drop 2 ts 0 0 in
-          let second = getD-take k (drop 2 ts) 1 0 (omega arith) ∙ getD-drop 2 ts 1 0 in
+          let first = part-at ts 2 k 0 (omega arith) in
+          let second = part-at ts 2 k 1 (omega arith) in
           channel-is ∙ ap onBins (sym bins) ∙ rw (eq-eqb (length (take k (drop 2 ts))) 2 (two ∙ pair), first, second, z)
 
 -- the row, once the bins are read
-module _ (ts : List ℕ) (so : channelOf ts ≡ onRow (getD ts 2 0 - largest) (getD ts 3 0 - largest) (numbers rowToken largest (largest + 255) (drop 5 ts))) where
-  pub channel-no-row : missing ≡ numbers rowToken largest (largest + 255) (drop 5 ts) → channelOf ts ≡ none
+module _ (ts : List ℕ) (so : channelFrom ts ≡ onRow (getD ts 2 0 - largest) (getD ts 3 0 - largest) (numbers rowToken largest (largest + 255) (drop 5 ts))) where
+  pub channel-no-row : missing ≡ numbers rowToken largest (largest + 255) (drop 5 ts) → channelFrom ts ≡ none
   channel-no-row f = so ∙ ap (onRow (getD ts 2 0 - largest) (getD ts 3 0 - largest)) (sym f)
 
   module _ (n : ℕ) (row : part (take n (drop 6 ts)) (drop (6 + n + 1) ts) ≡ numbers rowToken largest (largest + 255) (drop 5 ts)) (room : 6 + n < length ts) where
     many : length (take n (drop 6 ts)) ≡ n
-    many = length-take-le n (drop 6 ts) (omega (arith, length-drop 6 ts))
+    many = part-long ts 6 n (omega arith)
 
-    pub channel-long : 256 < n → channelOf ts ≡ none
+    pub channel-long : 256 < n → channelFrom ts ≡ none
     channel-long g = so ∙ ap (onRow (getD ts 2 0 - largest) (getD ts 3 0 - largest)) (sym row) ∙ rw (many, lt-leb n 256 g)
 
-    pub channel-rest : n ≤ 256 → (p : Part) → p ≡ vectors n (drop (n + 7) ts) → channelOf ts ≡ onVectors (getD ts 2 0 - largest) (getD ts 3 0 - largest) (map (λ t. t - largest) (take n (drop 6 ts))) p
+    pub channel-rest : n ≤ 256 → (p : Part) → p ≡ vectors n (drop (n + 7) ts) → channelFrom ts ≡ onVectors (getD ts 2 0 - largest) (getD ts 3 0 - largest) (map (λ t. t - largest) (take n (drop 6 ts))) p
     channel-rest g p f =
         let z : 6 + n + 1 ≡ n + 7 = omega arith in
         so ∙ ap (onRow (getD ts 2 0 - largest) (getD ts 3 0 - largest)) (sym row) ∙ rw (many, le-leb n 256 g, z, ← f)

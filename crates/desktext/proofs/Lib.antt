@@ -1,4 +1,5 @@
 pub mod Laws
+pub mod Steps
 pub mod ChannelTokens
 pub mod Forms
 pub mod Outputs

@@ -9,8 +9,8 @@ use lib.ListN.{length, drop}
 use lib.Arith.{lt-of-le-ne}
 use lib.Dec.{leb, eqb}
 use borrow.Author.Tests.{eqb-true, eqb-false, leb-true}
-use Rattle.desktext.specs.Spelling.{largest, lastNumber, closeToken, channelToken, binsToken, rowToken, vectorToken, channelWord, binsWord, rowWord, vectorWord, AllDigits, numberOf, Digits, Word, plain, minus, channelName, binsName, rowName, vectorName, Spelt, end, endLine, close, closeLine, space, line, TextOf, text}
-use Rattle.desktext.specs.Text.{Seen, seen, unseen, orElse, leads, named, digits, natural, above, below, number, itemHead, bracket, closing, Got, got, malformed, after, ending, onItem, onClose, step, rest, onName, tokens}
+use Rattle.desktext.specs.Spelling.{largest, lastNumber, closeToken, channelToken, binsToken, rowToken, vectorToken, channelWord, binsWord, rowWord, vectorWord, AllDigits, decimalValue, Digits, Word, plain, minus, channelName, binsName, rowName, vectorName, Spelt, end, endLine, close, closeLine, space, line, TextOf, text}
+use Rattle.desktext.specs.Text.{Seen, seen, unseen, orElse, leads, named, digits, natural, above, below, numberSeen, itemHead, bracket, closing, ReadText, got, malformed, after, ending, onItem, onClose, step, rest, onName, tokens}
 use Rattle.desktext.proofs.Laws.{no-true}
 
 no-seen : {A : Type 0} (t : ℕ) (r : List ℕ) → unseen ≡ seen t r → A
@@ -38,15 +38,15 @@ closing-spelt (b ∷ s) t r e = go (eqb b 10) refl e
     go false f g = let k = bracket-spelt (b ∷ s) t r g in (k .0, inl (k .1))
 
 digits-spelt : (v : ℕ) (s : List ℕ) (m : ℕ) (r : List ℕ) → v ≤ largest → digits v s ≡ seen m r
-    → (ds : List ℕ) × (s ≡ ds ++ r) × AllDigits ds × (m ≡ numberOf v ds) × (m ≤ largest)
-unfolding digits AllDigits numberOf
+    → (ds : List ℕ) × (s ≡ ds ++ r) × AllDigits ds × (m ≡ decimalValue v ds) × (m ≤ largest)
+unfolding digits AllDigits decimalValue
 digits-spelt v [] m r h e = let a : v ≡ m = cc in let b : [] ≡ r = cc in ([], b, tt, sym a, omega arith)
 digits-spelt v (b ∷ s) m r h e = go (leb 48 b) (leb b 57) (leb (v * 10 + (b - 48)) largest) refl refl refl e (digits-spelt (v * 10 + (b - 48)) s m r)
   where
     go : (x y z : Bool) → leb 48 b ≡ x → leb b 57 ≡ y → leb (v * 10 + (b - 48)) largest ≡ z
         → cond (cond x y false) (cond z (digits (v * 10 + (b - 48)) s) unseen) (seen v (b ∷ s)) ≡ seen m r
-        → (v * 10 + (b - 48) ≤ largest → digits (v * 10 + (b - 48)) s ≡ seen m r → (ds : List ℕ) × (s ≡ ds ++ r) × AllDigits ds × (m ≡ numberOf (v * 10 + (b - 48)) ds) × (m ≤ largest))
-        → (ds : List ℕ) × (b ∷ s ≡ ds ++ r) × AllDigits ds × (m ≡ numberOf v ds) × (m ≤ largest)
+        → (v * 10 + (b - 48) ≤ largest → digits (v * 10 + (b - 48)) s ≡ seen m r → (ds : List ℕ) × (s ≡ ds ++ r) × AllDigits ds × (m ≡ decimalValue (v * 10 + (b - 48)) ds) × (m ≤ largest))
+        → (ds : List ℕ) × (b ∷ s ≡ ds ++ r) × AllDigits ds × (m ≡ decimalValue v ds) × (m ≤ largest)
     go true true true f g i k more = let n = more (leb-true _ _ i) k in (b ∷ n .0, ap (λ (l : List ℕ). b ∷ l) (n .1), (leb-true _ _ f, leb-true _ _ g, n .2), n .3, n .4)
     go true true false f g i k more = no-seen m r k
     go true false z f g i k more = let a : v ≡ m = cc in let c : b ∷ s ≡ r = cc in ([], c, tt, sym a, omega arith)
@@ -72,8 +72,8 @@ natural-spelt (b ∷ s) m r e = go (eqb b 48) (leb 48 b) (leb b 57) refl refl re
     go false true false f g h k = no-seen m r k
     go false false z f g h k = no-seen m r k
 
-number-spelt : (s : List ℕ) (t : ℕ) (r : List ℕ) → number s ≡ seen t r → (w : List ℕ) × (s ≡ w ++ r) × Word t w
-unfolding number
+number-spelt : (s : List ℕ) (t : ℕ) (r : List ℕ) → numberSeen s ≡ seen t r → (w : List ℕ) × (s ≡ w ++ r) × Word t w
+unfolding numberSeen
 number-spelt [] t r e = no-seen t r e
 number-spelt (b ∷ s) t r e = go (eqb b 45) refl e
   where
@@ -131,10 +131,10 @@ named-spelt s t r e = go (leads channelWord s) (leads binsWord s) (leads rowWord
     go false false false true f g h i k = let n = found vectorWord vectorToken [] i k in (vectorWord, n .1, vectorName (n .0) refl)
     go false false false false f g h i k = no-seen t r k
 
-word-spelt : (s : List ℕ) (t : ℕ) (r : List ℕ) → orElse (named s) (number s) ≡ seen t r → (w : List ℕ) × (s ≡ w ++ r) × Word t w
+word-spelt : (s : List ℕ) (t : ℕ) (r : List ℕ) → orElse (named s) (numberSeen s) ≡ seen t r → (w : List ℕ) × (s ≡ w ++ r) × Word t w
 word-spelt s t r e = go (named s) refl e
   where
-    go : (x : Seen) → named s ≡ x → orElse x (number s) ≡ seen t r → (w : List ℕ) × (s ≡ w ++ r) × Word t w
+    go : (x : Seen) → named s ≡ x → orElse x (numberSeen s) ≡ seen t r → (w : List ℕ) × (s ≡ w ++ r) × Word t w
     go unseen f g = number-spelt s t r g
     go (seen u q) f g = named-spelt s t r (f ∙ g)
 
@@ -143,7 +143,7 @@ unfolding itemHead
 item-spelt [] t r e = no-seen t r e
 item-spelt (b ∷ s) t r e = go (eqb b 32) (eqb b 10) refl refl e
   where
-    go : (x y : Bool) → eqb b 32 ≡ x → eqb b 10 ≡ y → cond x (orElse (named s) (number s)) (cond y (orElse (named s) (number s)) unseen) ≡ seen t r
+    go : (x y : Bool) → eqb b 32 ≡ x → eqb b 10 ≡ y → cond x (orElse (named s) (numberSeen s)) (cond y (orElse (named s) (numberSeen s)) unseen) ≡ seen t r
         → (w : List ℕ) × ((b ∷ s ≡ 32 ∷ (w ++ r)) ⊎ (b ∷ s ≡ 10 ∷ (w ++ r))) × Word t w
     go true y f g k = let h : b ≡ 32 = eqb-true _ _ f in let n = word-spelt s t r k in let i = n .1 in (n .0, inl (cc), n .2)
     go false true f g k = let h : b ≡ 10 = eqb-true _ _ g in let n = word-spelt s t r k in let i = n .1 in (n .0, inr (cc), n .2)
@@ -160,7 +160,7 @@ ending-spelt (b ∷ []) ts e = go (eqb b 10) refl e
 ending-spelt (b ∷ c ∷ s) ts e = no-got ts e
 
 -- the tokens of what follows t
-follows : (t : ℕ) (g : Got) (ts : List ℕ) → after (t ∷ []) g ≡ got ts → (us : List ℕ) × (g ≡ got us) × (ts ≡ t ∷ us)
+follows : (t : ℕ) (g : ReadText) (ts : List ℕ) → after (t ∷ []) g ≡ got ts → (us : List ℕ) × (g ≡ got us) × (ts ≡ t ∷ us)
 follows t (got us) ts e = let a : t ∷ us ≡ ts = cc in (us, refl, sym a)
 follows t malformed ts e = no-got ts e
 
@@ -181,7 +181,7 @@ item-word t s r ts us e f more =
     let n = item-spelt s t r e in
     ⊎-elim (λ i. spelt-as ts (t ∷ us) s (32 ∷ (n .0 ++ r)) f i (space (n .2) more)) (λ i. spelt-as ts (t ∷ us) s (10 ∷ (n .0 ++ r)) f i (line (n .2) more)) (n .1)
 
-step-spelt : (go : ℕ → List ℕ → Got) → ((k : ℕ) (r us : List ℕ) → go k r ≡ got us → Spelt us r) → (d : ℕ) (s ts : List ℕ) → step go d s ≡ got ts → Spelt ts s
+step-spelt : (go : ℕ → List ℕ → ReadText) → ((k : ℕ) (r us : List ℕ) → go k r ≡ got us → Spelt us r) → (d : ℕ) (s ts : List ℕ) → step go d s ≡ got ts → Spelt ts s
 unfolding step
 step-spelt go more zero s ts e = ending-spelt s ts e
 step-spelt go more (suc d) s ts e = shut (closing s) refl e

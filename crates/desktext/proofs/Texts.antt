@@ -1,5 +1,5 @@
 -- The texts that are read as a channel are those of the section: law `text-read`. Assumes nothing.
-use Prim.Native.Nat.{ℕ, zero, suc, _+_, _-_, _≤_, _<_}
+use Prim.Native.Nat.{ℕ, zero, suc, _+_, _≤_, _<_}
 use mathlib.Core.Path.{_≡_, refl, sym, ap, _∙_, subst}
 use mathlib.Core.Logic.{_↔_}
 use mathlib.Core.List.{List, [], _∷_, _++_, map}
@@ -9,9 +9,9 @@ use lib.ListN.{length, take, drop}
 use lib.Dec.{leb}
 use borrow.Author.Tests.{le-leb, lt-leb, ne-eqb, leb-true}
 use Rattle.desktext.specs.Spelling.{largest, lastNumber, channelToken, binsToken, rowToken, closeToken, TextOf, nested}
-use Rattle.desktext.specs.Printed.{IsText, AllIn, form, vectorForms, channelTokens, Allowed}
-use Rattle.desktext.specs.Text.{Got, got, malformed, tokens}
-use Rattle.desktext.specs.Channel.{Channel, textAnswer, numbers, channel, none, channelIn, onGot}
+use Rattle.desktext.specs.Printed.{IsText, AllIn, form, vectorForms, channelTokens, InLimits}
+use Rattle.desktext.specs.Text.{ReadText, got, malformed, tokens}
+use Rattle.desktext.specs.Channel.{TextChannel, textAnswer, numbers, channel, none, channelIn, onGot}
 use Rattle.desktext.specs.declared.DeskText.{DeskText}
 use Rattle.desktext.proofs.Spelt.{tokens-spelt}
 use Rattle.desktext.proofs.Back.{tokens-back}
@@ -34,7 +34,7 @@ nested-name : (t : ℕ) (ts : List ℕ) → lastNumber < t → t < closeToken �
 unfolding nested
 nested-name t ts h k = rw (ne-eqb t closeToken (λ e. omega arith), lt-leb t lastNumber h)
 
-pub nested-channel : (a b : ℕ) (row vs : List ℕ) → Allowed a b row vs
+pub nested-channel : (a b : ℕ) (row vs : List ℕ) → InLimits a b row vs
     → nested 1 (form binsToken ((largest + a) ∷ (largest + b) ∷ []) (form rowToken (map (λ k. largest + k) row) (vectorForms (length row) vs))) ≡ true
 unfolding AllIn
 nested-channel a b row vs ok =
@@ -58,7 +58,7 @@ reads-sole : (a b : ℕ) (row vs s : List ℕ) → channelIn s ≡ channel a b r
 unfolding channelIn
 reads-sole a b row vs s e = go (leb (length s) 65536) refl e
   where
-    of : (g : Got) → tokens s ≡ g → length s ≤ 65536 → onGot g ≡ channel a b row vs → IsText a b row vs s
+    of : (g : ReadText) → tokens s ≡ g → length s ≤ 65536 → onGot g ≡ channel a b row vs → IsText a b row vs s
     of malformed f h k = no-channel a b row vs k
     of (got ts) f h k =
         let n = channel-sole ts a b row vs k in
@@ -76,7 +76,7 @@ text-read s a b row vs = (reads-back a b row vs s, reads-sole a b row vs s)
 pub text-refused : (s : List ℕ) → ((a b : ℕ) (row vs : List ℕ) → IsText a b row vs s → ⊥) ↔ (textAnswer (channelIn s) ≡ DeskText.Refused 13)
 text-refused s = (λ n. ap textAnswer (unread (channelIn s) refl n), λ e a b row vs x. no-answer a b (length row) (ap textAnswer (sym (reads-back a b row vs s x)) ∙ e))
   where
-    unread : (c : Channel) → channelIn s ≡ c → ((a b : ℕ) (row vs : List ℕ) → IsText a b row vs s → ⊥) → channelIn s ≡ none
+    unread : (c : TextChannel) → channelIn s ≡ c → ((a b : ℕ) (row vs : List ℕ) → IsText a b row vs s → ⊥) → channelIn s ≡ none
     unread none e n = e
     unread (channel a b row vs) e n = absurd (n a b row vs (reads-sole a b row vs s e))
 

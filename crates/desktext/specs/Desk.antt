@@ -9,8 +9,9 @@ use Rattle.bits.specs.Bits.{bytesWith}
 use Rattle.planner.specs.Planning.{planned}
 use Rattle.writer.specs.Written.{fieldOf}
 use Rattle.plantext.specs.PlanText.{planText, refusedText}
-use Rattle.desktext.specs.Printed.{valueOf}
-use Rattle.desktext.specs.Channel.{Channel, channel, none, channelIn}
+use Rattle.desktext.specs.Printed.{componentOf}
+use Rattle.desktext.specs.Channel.{TextChannel, channel, none, channelIn}
+use Rattle.answers.specs.Causes as cause
 
 -- the bytes of a field, unused last bits 0
 abbrev pub fieldBytes : List Bool → List ℕ
@@ -23,9 +24,9 @@ planAnswer row start end x =
     cond (eqb (r .refusal) 0) (planText (r .plan) (fieldBytes (fieldOf (r .plan) row start end x))) (refusedText (r .refusal))
 
 -- 13 comes first
-abbrev pub channelAnswer : Channel → List ℕ
-channelAnswer (channel start end row vs) = planAnswer row start end (map valueOf vs)
-channelAnswer none = refusedText 13
+abbrev pub channelAnswer : TextChannel → List ℕ
+channelAnswer (channel start end row vs) = planAnswer row start end (map componentOf vs)
+channelAnswer none = refusedText cause.text
 
 unfoldable pub deskAnswer : List ℕ → List ℕ
 deskAnswer text = channelAnswer (channelIn text)

@@ -1,7 +1,7 @@
--- Spelling and Printed say what a text is, by the section Desk text of document 01; Text and Channel how it is read; Shown what the functions' answers show.
+-- Spelling and Printed say what a text is, by the section Desk text of document 01; Text and Channel how it is read.
 pub mod Spelling
 pub mod Printed
 pub mod Text
 pub mod Channel
-pub mod Shown
+pub mod Work
 pub mod Desk

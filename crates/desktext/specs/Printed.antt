@@ -10,7 +10,7 @@ use lib.ListN.{length, take, drop}
 use Rattle.levels.specs.Value.{f32768}
 use Rattle.desktext.specs.Spelling.{largest, lastNumber, channelToken, binsToken, rowToken, vectorToken, closeToken, TextOf}
 
--- A channel is given by its bins a and b, the row's numbers, and the vectors' numbers one after the other, these as tokens.
+-- A channel is given by its bins a and b, the row's numbers, and the numbers of its vectors, these as tokens.
 -- ---- order: bins, row, one vector for each row number
 -- a form: its name, its items and its closing bracket, with what comes after it
 abbrev pub form : ℕ → List ℕ → List ℕ → List ℕ
@@ -30,8 +30,8 @@ unfoldable pub AllIn : ℕ → ℕ → List ℕ → Type 0
 AllIn low high [] = Unit {0}
 AllIn low high (x ∷ xs) = (low ≤ x) × (x ≤ high) × AllIn low high xs
 
--- just two bins, not below 0; row numbers 0 to 255, at most 256 of them; just six numbers for each, from -16777216 to 16777216
-pub record Allowed (a b : ℕ) (row vs : List ℕ) : Type 0 where
+-- just two bins, not below 0; at most 256 row numbers, 0 to 255; just six numbers for each, -16777216 to 16777216
+pub record InLimits (a b : ℕ) (row vs : List ℕ) : Type 0 where
   pub start : a ≤ largest
   pub end : b ≤ largest
   pub few : length row ≤ 256
@@ -42,12 +42,12 @@ pub record Allowed (a b : ℕ) (row vs : List ℕ) : Type 0 where
 -- ---- texts
 -- s is a text of that channel, at most 65,536 bytes long
 pub record IsText (a b : ℕ) (row vs s : List ℕ) : Type 0 where
-  pub allowed : Allowed a b row vs
+  pub allowed : InLimits a b row vs
   pub spelt : TextOf (channelTokens a b row vs) s
   pub short : length s ≤ 65536
 
 -- ---- values
 -- a component is the number / 32768, in f32
-unfoldable pub valueOf : ℕ → Float
-valueOf t =
+unfoldable pub componentOf : ℕ → Float
+componentOf t =
     cond (leb largest t) (div binary32 (ofInt binary32 (pos (t - largest))) f32768) (neg (div binary32 (ofInt binary32 (pos (largest - t))) f32768))

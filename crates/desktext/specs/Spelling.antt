@@ -49,16 +49,16 @@ AllDigits [] = Unit {0}
 AllDigits (d ∷ ds) = (48 ≤ d) × (d ≤ 57) × AllDigits ds
 
 -- the number whose digits are those of v and then ds
-unfoldable pub numberOf : ℕ → List ℕ → ℕ
-numberOf v [] = v
-numberOf v (d ∷ ds) = numberOf (v * 10 + (d - 48)) ds
+unfoldable pub decimalValue : ℕ → List ℕ → ℕ
+decimalValue v [] = v
+decimalValue v (d ∷ ds) = decimalValue (v * 10 + (d - 48)) ds
 
 -- the digits of a number m: no plus, no leading zero, at most 16777216
 unfoldable pub Digits : ℕ → List ℕ → Type 0
 Digits m [] = ⊥
-Digits m (d ∷ ds) = ((d ≡ 48) × (ds ≡ []) × (m ≡ 0)) ⊎ ((48 < d) × (d ≤ 57) × AllDigits ds × (m ≡ numberOf (d - 48) ds) × (m ≤ largest))
+Digits m (d ∷ ds) = ((d ≡ 48) × (ds ≡ []) × (m ≡ 0)) ⊎ ((48 < d) × (d ≤ 57) × AllDigits ds × (m ≡ decimalValue (d - 48) ds) × (m ≤ largest))
 
--- the bytes w of a token t that is no closing bracket: a number, with a minus where it is below 0 (no -0), or a form's beginning
+-- the bytes w of a token t: a number, with a minus where it is below 0 (no -0), or a form's beginning
 pub data Word (t : ℕ) (w : List ℕ) : Type 0 where
   plain : (m : ℕ) → t ≡ largest + m → Digits m w → Word t w
   minus : (m : ℕ) (v : List ℕ) → w ≡ 45 ∷ v → t ≡ largest - m → (m ≡ 0 → ⊥) → Digits m v → Word t w
@@ -67,8 +67,8 @@ pub data Word (t : ℕ) (w : List ℕ) : Type 0 where
   rowName : t ≡ rowToken → w ≡ rowWord → Word t w
   vectorName : t ≡ vectorToken → w ≡ vectorWord → Word t w
 
--- What follows the text's first name. One space or one line end stands between items, and the first item follows its name in the same way;
--- one line end may stand before a closing bracket and after the last one.
+-- What follows the text's first name. One space or one line end stands before each item; one line end may stand before
+-- a closing bracket and after the last one.
 pub data Spelt : List ℕ → List ℕ → Type 0 where
   end : Spelt [] []
   endLine : Spelt [] (10 ∷ [])
@@ -81,7 +81,7 @@ pub data Spelt : List ℕ → List ℕ → Type 0 where
 pub data TextOf : List ℕ → List ℕ → Type 0 where
   text : {t : ℕ} {ts w s : List ℕ} → Word t w → Spelt ts s → TextOf (t ∷ ts) (w ++ s)
 
--- Nesting reaches 4 levels: the brackets of the tokens close the d forms that are open and all that they open, with never more than 4 open.
+-- Nesting reaches 4 levels: of d open forms, the tokens close these and all that they open, never more than 4 at once.
 -- The tokens of every channel (specs/Printed.antt) are so: law `nested-channel`.
 unfoldable pub nested : ℕ → List ℕ → Bool
 nested zero [] = true

@@ -1,4 +1,5 @@
--- A text read as tokens, byte by byte. The rules are those of specs/Spelling.antt: law `text-read`. Document 01, Desk text.
+-- A text read as tokens, byte by byte. Document 01, Desk text.
+-- The rules are those of specs/Spelling.antt: law `text-read`.
 use Prim.Native.Nat.{ℕ, zero, suc, _+_, _-_, _*_}
 use mathlib.Core.List.{List, [], _∷_, _++_}
 use mathlib.Core.Bool.{Bool, true, false, cond}
@@ -29,17 +30,17 @@ named s =
     (cond (leads rowWord s) (seen rowToken (drop 4 s))
     (cond (leads vectorWord s) (seen vectorToken (drop 7 s)) unseen)))
 
--- a number without plus, leading zero or -0, of size at most 16777216. A zero is a whole number: a digit after it is no separator.
-abbrev pub digit : ℕ → Bool
-digit b = cond (leb 48 b) (leb b 57) false
+-- a number without plus, leading zero or -0, of size at most 16777216. After a first 0 no digit is read.
+abbrev pub isDigit : ℕ → Bool
+isDigit b = cond (leb 48 b) (leb b 57) false
 
 unfoldable pub digits : ℕ → List ℕ → Seen
 digits v [] = seen v []
-digits v (b ∷ s) = cond (digit b) (cond (leb (v * 10 + (b - 48)) largest) (digits (v * 10 + (b - 48)) s) unseen) (seen v (b ∷ s))
+digits v (b ∷ s) = cond (isDigit b) (cond (leb (v * 10 + (b - 48)) largest) (digits (v * 10 + (b - 48)) s) unseen) (seen v (b ∷ s))
 
 unfoldable pub natural : List ℕ → Seen
 natural [] = unseen
-natural (b ∷ s) = cond (eqb b 48) (seen 0 s) (cond (digit b) (digits (b - 48) s) unseen)
+natural (b ∷ s) = cond (eqb b 48) (seen 0 s) (cond (isDigit b) (digits (b - 48) s) unseen)
 
 abbrev pub above : Seen → Seen
 above (seen m r) = seen (largest + m) r
@@ -49,14 +50,14 @@ abbrev pub below : Seen → Seen
 below (seen m r) = cond (eqb m 0) unseen (seen (largest - m) r)
 below unseen = unseen
 
-unfoldable pub number : List ℕ → Seen
-number [] = unseen
-number (b ∷ s) = cond (eqb b 45) (below (natural s)) (above (natural (b ∷ s)))
+unfoldable pub numberSeen : List ℕ → Seen
+numberSeen [] = unseen
+numberSeen (b ∷ s) = cond (eqb b 45) (below (natural s)) (above (natural (b ∷ s)))
 
 -- an item after its one space or line end: a form's bracket and name, or a number
 unfoldable pub itemHead : List ℕ → Seen
 itemHead [] = unseen
-itemHead (b ∷ s) = cond (eqb b 32) (orElse (named s) (number s)) (cond (eqb b 10) (orElse (named s) (number s)) unseen)
+itemHead (b ∷ s) = cond (eqb b 32) (orElse (named s) (numberSeen s)) (cond (eqb b 10) (orElse (named s) (numberSeen s)) unseen)
 
 -- a closing bracket, before which one line end may stand
 unfoldable pub bracket : List ℕ → Seen
@@ -68,43 +69,43 @@ closing [] = unseen
 closing (b ∷ s) = cond (eqb b 10) (bracket s) (bracket (b ∷ s))
 
 -- what a text is: its tokens in order, or malformed
-pub data Got : Type 0 where
-  got : List ℕ → Got
-  malformed : Got
+pub data ReadText : Type 0 where
+  got : List ℕ → ReadText
+  malformed : ReadText
 
-abbrev pub after : List ℕ → Got → Got
+abbrev pub after : List ℕ → ReadText → ReadText
 after ts (got us) = got (ts ++ us)
 after ts malformed = malformed
 
 -- after the last bracket: nothing, or one line end
-unfoldable pub ending : List ℕ → Got
+unfoldable pub ending : List ℕ → ReadText
 ending [] = got []
 ending (b ∷ []) = cond (eqb b 10) (got []) malformed
 ending (b ∷ c ∷ s) = malformed
 
 -- an item of the forms that are open, and what follows it, which goes by how many are open then: at most four
-abbrev pub onItem : (ℕ → List ℕ → Got) → ℕ → Seen → Got
+abbrev pub onItem : (ℕ → List ℕ → ReadText) → ℕ → Seen → ReadText
 onItem go depth unseen = malformed
 onItem go depth (seen t r) =
     cond (leb t lastNumber) (after (t ∷ []) (go depth r)) (cond (leb 4 depth) malformed (after (t ∷ []) (go (suc depth) r)))
 
-abbrev pub onClose : (ℕ → List ℕ → Got) → ℕ → Seen → Got → Got
+abbrev pub onClose : (ℕ → List ℕ → ReadText) → ℕ → Seen → ReadText → ReadText
 onClose go depth (seen t r) other = after (t ∷ []) (go depth r)
 onClose go depth unseen other = other
 
-unfoldable pub step : (ℕ → List ℕ → Got) → ℕ → List ℕ → Got
+unfoldable pub step : (ℕ → List ℕ → ReadText) → ℕ → List ℕ → ReadText
 step go zero s = ending s
 step go (suc depth) s = onClose go depth (closing s) (onItem go (suc depth) (itemHead s))
 
 -- the rest of a text in which so many forms are open, of at most n tokens
-unfoldable pub rest : ℕ → ℕ → List ℕ → Got
+unfoldable pub rest : ℕ → ℕ → List ℕ → ReadText
 rest zero depth s = malformed
 rest (suc n) depth s = step (rest n) depth s
 
-abbrev pub onName : ℕ → Seen → Got
+abbrev pub onName : ℕ → Seen → ReadText
 onName n (seen t r) = after (t ∷ []) (rest n 1 r)
 onName n unseen = malformed
 
 -- a text has at most as many tokens as bytes
-unfoldable pub tokens : List ℕ → Got
+unfoldable pub tokens : List ℕ → ReadText
 tokens s = onName (length s) (named s)

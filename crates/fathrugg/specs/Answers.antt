@@ -1,146 +1,70 @@
--- The answers of the crates below as C has them: the number of a refusal, 0 for none, and what each lent place holds afterwards.
-use Prim.Native.Nat.{ℕ, _-_, _*_}
+-- The answers of the crates below as C has them: positions by a byte and a bit, and what each lent place holds
+-- afterwards.
+use Prim.Native.Nat.{ℕ, _*_}
 use mathlib.Core.Bool.{cond}
 use mathlib.Core.List.{List}
 use lib.Dec.{eqb}
 use lib.Ieee.{Float}
+use lib.IntN.{ℤ}
 use lib.ListN.{length}
-use Rattle.bits.specs.Bits.{bitAt}
+use Rattle.bits.specs.Bits.{bitAt, readU32, writeU32}
 use Rattle.bits.specs.Format.{Got}
+use Rattle.bits.specs.declared.BitMove.{BitMove}
 use Rattle.bits.specs.declared.BitPos.{BitPos}
 use Rattle.bits.specs.declared.BitRead.{BitRead}
-use Rattle.bits.specs.declared.BitWrite.{BitWrite}
-use Rattle.tables.specs.declared.HebapResult.{HebapResult}
-use Rattle.gains.specs.declared.ByteResult.{ByteResult}
-use Rattle.gains.specs.declared.CountResult.{CountResult}
+use Rattle.gains.specs.Gains.{readGaqGains}
 use Rattle.gains.specs.declared.GainsResult.{GainsResult}
-use Rattle.levels.specs.declared.Code.{Code}
-use Rattle.levels.specs.Value.{valueIn}
-use Rattle.scalars.specs.declared.ScalarResult.{ScalarResult}
-use Rattle.books.specs.declared.SearchResult.{SearchResult}
-use Rattle.field.specs.Field.{Channel}
-use Rattle.quantiser.specs.declared.PickResult.{PickResult}
+use Rattle.bits.specs.Format.{moveAnswer}
+use Rattle.scalars.specs.Scalars.{scalarsRead}
 use Rattle.planner.specs.declared.Plan.{Plan}
+use Rattle.planner.specs.declared.Planned.{Planned}
+use Rattle.writer.specs.Written.{channelWrite}
+use Rattle.writer.specs.declared.ChannelWrite.{ChannelWrite}
+use Rattle.reader.specs.Reading.{Call, call}
 use Rattle.reader.specs.declared.ChannelRead.{ChannelRead}
-use Rattle.reader.specs.Reading.{channelRead, readAnswer}
 
--- the position that a byte and a bit name
+-- ---- positions
+-- the position that a byte and a bit name, and its bit
 abbrev pub place : ℕ → ℕ → BitPos
 place byte bit = record { byte = byte; bit = bit }
 
--- For each kind of answer: the number that is returned, the value afterwards where v stood before, and the position afterwards
--- where p was lent. A refusal leaves the value and the position as they were.
-abbrev pub readNumber : BitRead → ℕ
-readNumber (BitRead.Number w q) = 0
-readNumber (BitRead.Refused n) = n
+abbrev pub bitOfPlace : ℕ → ℕ → ℕ
+bitOfPlace byte bit = bitAt (place byte bit)
 
-abbrev pub readValue : ℕ → BitRead → ℕ
-readValue v (BitRead.Number w q) = w
-readValue v (BitRead.Refused n) = v
+-- the calls at it
+abbrev pub readAt : List ℕ → ℕ → ℕ → ℕ → BitRead
+readAt s byte bit n = readU32 s (bitOfPlace byte bit) n
 
-abbrev pub readPlace : BitPos → BitRead → BitPos
-readPlace p (BitRead.Number w q) = q
-readPlace p (BitRead.Refused n) = p
+abbrev pub writeAt : List ℕ → ℕ → ℕ → ℕ → BitMove
+writeAt s byte bit n = writeU32 s (bitOfPlace byte bit) n
 
-abbrev pub writeNumber : BitWrite → ℕ
-writeNumber (BitWrite.Done q) = 0
-writeNumber (BitWrite.Refused n) = n
+abbrev pub gainsAt : List ℕ → ℕ → ℕ → ℕ → ℕ → ℕ → GainsResult
+gainsAt s byte bit mode n places = readGaqGains s (bitOfPlace byte bit) mode n places
 
-abbrev pub writePlace : BitPos → BitWrite → BitPos
-writePlace p (BitWrite.Done q) = q
-writePlace p (BitWrite.Refused n) = p
+abbrev pub scalarsAt : List ℕ → ℕ → ℕ → ℕ → ℕ → ℤ → ℕ → Got (List Float)
+scalarsAt s byte bit h mode gaqbin code = scalarsRead s (bitOfPlace byte bit) h mode gaqbin code
 
-abbrev pub hebapNumber : HebapResult → ℕ
-hebapNumber (HebapResult.Hebap h) = 0
-hebapNumber (HebapResult.Refused n) = n
+abbrev pub scalarsMove : List ℕ → ℕ → ℕ → ℕ → ℕ → ℤ → ℕ → BitMove
+scalarsMove s byte bit h mode gaqbin code = moveAnswer (8 * length s) (scalarsAt s byte bit h mode gaqbin code)
 
-abbrev pub hebapValue : ℕ → HebapResult → ℕ
-hebapValue v (HebapResult.Hebap h) = h
-hebapValue v (HebapResult.Refused n) = v
+abbrev pub channelAt : Plan → List ℕ → ℕ → ℕ → List Float → List ℕ → ℕ → ℕ → ChannelWrite
+channelAt p row start end x out byte bit = channelWrite p row start end x out (bitOfPlace byte bit)
 
-abbrev pub byteNumber : ByteResult → ℕ
-byteNumber (ByteResult.Value b) = 0
-byteNumber (ByteResult.Refused n) = n
+abbrev pub callAt : List ℕ → ℕ → ℕ → List Float → List ℤ → List ℕ → Call
+callAt s byte bit values exact indices = call s (bitOfPlace byte bit) values exact indices
 
-abbrev pub byteValue : ℕ → ByteResult → ℕ
-byteValue v (ByteResult.Value b) = b
-byteValue v (ByteResult.Refused n) = v
-
-abbrev pub countNumber : CountResult → ℕ
-countNumber (CountResult.Count k) = 0
-countNumber (CountResult.Refused n) = n
-
-abbrev pub countValue : ℕ → CountResult → ℕ
-countValue v (CountResult.Count k) = k
-countValue v (CountResult.Refused n) = v
-
-abbrev pub gainsNumber : GainsResult → ℕ
-gainsNumber (GainsResult.Codes k q) = 0
-gainsNumber (GainsResult.Refused n) = n
-
-abbrev pub gainsValue : ℕ → GainsResult → ℕ
-gainsValue v (GainsResult.Codes k q) = k
-gainsValue v (GainsResult.Refused n) = v
-
-abbrev pub gainsPlace : BitPos → GainsResult → BitPos
-gainsPlace p (GainsResult.Codes k q) = q
-gainsPlace p (GainsResult.Refused n) = p
-
-abbrev pub scalarNumber : ScalarResult → ℕ
-scalarNumber (ScalarResult.Done q) = 0
-scalarNumber (ScalarResult.Refused n) = n
-
-abbrev pub scalarPlace : BitPos → ScalarResult → BitPos
-scalarPlace p (ScalarResult.Done q) = q
-scalarPlace p (ScalarResult.Refused n) = p
-
-abbrev pub searchNumber : SearchResult → ℕ
-searchNumber (SearchResult.Index k) = 0
-searchNumber (SearchResult.Refused n) = n
-
-abbrev pub searchValue : ℕ → SearchResult → ℕ
-searchValue v (SearchResult.Index k) = k
-searchValue v (SearchResult.Refused n) = v
-
--- 1 for a large code, 0 for a small one
-abbrev pub largeOf : Code → ℕ
-largeOf (Code.Small s) = 0
-largeOf (Code.Large l) = 1
-
-abbrev pub codeOf : Code → ℕ
-codeOf (Code.Small s) = s
-codeOf (Code.Large l) = l
-
-abbrev pub pickedNumber : PickResult → ℕ
-pickedNumber (PickResult.Picked c l) = 0
-pickedNumber (PickResult.Refused n) = n
-
-abbrev pub pickedLarge : ℕ → PickResult → ℕ
-pickedLarge v (PickResult.Picked c l) = largeOf c
-pickedLarge v (PickResult.Refused n) = v
-
-abbrev pub pickedCode : ℕ → PickResult → ℕ
-pickedCode v (PickResult.Picked c l) = codeOf c
-pickedCode v (PickResult.Refused n) = v
-
-abbrev pub pickedValue : Float → PickResult → Float
-pickedValue v (PickResult.Picked c l) = valueIn l
-pickedValue v (PickResult.Refused n) = v
-
--- What a lent place holds after an answer that is a struct with the number n in it: v, or w where n refuses.
+-- ---- answers that are structs
+-- what a lent place holds after the number n: v, or w where n refuses
 abbrev pub afterNumber : {A : Type 0} → ℕ → A → A → A
 afterNumber n v w = cond (eqb n 0) v w
+
+-- a part of a plan, and of what was read
+abbrev pub fromPlan : {A : Type 0} → Planned → (Plan → A) → A → A
+fromPlan r f old = afterNumber (r .refusal) (f (r .plan)) old
+
+abbrev pub fromRead : {A : Type 0} → ChannelRead → (ChannelRead → A) → A → A
+fromRead r f old = afterNumber (r .refusal) (f r) old
 
 -- the plan that C lends part by part
 abbrev pub planFrom : ℕ → List ℕ → ℕ → ℕ → Plan
 planFrom mode gains count payload = record { mode = mode; gains = gains; count = count; payload = payload }
-
--- the channel that the bytes s have from a byte and a bit on, where values, exact and indices are the outputs
-abbrev pub channelSeen : {A B C : Type 0} → List ℕ → ℕ → ℕ → List ℕ → ℕ → ℕ → List A → List B → List C → Got Channel
-channelSeen s byte bit row start end values exact indices =
-    channelRead s (bitAt (place byte bit)) row start end (length values) (length exact) (length indices)
-
--- the reader's answer for it
-abbrev pub answerSeen : {A B C : Type 0} → List ℕ → ℕ → ℕ → List ℕ → ℕ → ℕ → List A → List B → List C → ChannelRead
-answerSeen s byte bit row start end values exact indices =
-    readAnswer (8 * length s - bitAt (place byte bit)) (channelSeen s byte bit row start end values exact indices)

@@ -1,11 +1,12 @@
--- Which bins are active and how a bin is coded, by cases of the hebap and the mode; and the gains that a mode allows. Assumes nothing.
+-- Which bins are active and how a bin is coded, by cases of the hebap and the mode; and the gains that a mode allows.
+-- Assumes nothing.
 use Prim.Native.Nat.{ℕ, _≤_, _<_}
 use mathlib.Core.Path.{_≡_, refl, sym, ap, _∙_, subst}
 use mathlib.Core.List.{[], _∷_}
-use mathlib.Core.Bool.{Bool, true, false, cond, not, _&&_, _||_, true≢false}
+use mathlib.Core.Bool.{or-false, Bool, true, false, cond, not, _&&_, _||_, true≢false}
 use native.Mathlib.Omega.{arith}
-use lib.Dec.{eqb, leb, ltb}
-use borrow.Author.Tests.{le-leb, lt-leb, lt-ltb, le-ltb, ltb-true, ltb-false, leb-true, eq-eqb, ne-eqb, eqb-true}
+use lib.Dec.{eqb, ltb}
+use borrow.Author.Tests.{le-leb, lt-leb, lt-ltb, le-ltb, ltb-true, ltb-false, eq-eqb, ne-eqb, eqb-true}
 use Rattle.gains.specs.Gains.{endbap, active, codingOf, otherGains, member, allowedGain}
 use Rattle.gains.specs.declared.Coding.{Coding}
 
@@ -85,28 +86,7 @@ module _ (mode h : ℕ) where
   unfolding codingOf
   coding-scalar l t e = ap (λ (u : Bool). cond u Coding.Adaptive Coding.Fixed) e ∙ sym (rw (ne-eqb h 0 (λ (e : h ≡ 0). omega arith), lt-leb h 7 l))
 
--- a bin is coded at a gain of its own exactly where it is active
-abbrev pub adaptive : Coding → Bool
-adaptive Coding.Nothing = false
-adaptive Coding.Book = false
-adaptive Coding.Fixed = false
-adaptive Coding.Adaptive = true
-
-pub adaptive-active : (mode h : ℕ) → adaptive (codingOf mode h) ≡ active mode h
-unfolding codingOf
-adaptive-active mode h = go (eqb h 0) refl (leb h 7) refl (active mode h) refl
-  where
-    go : (s : Bool) → eqb h 0 ≡ s → (t : Bool) → leb h 7 ≡ t → (u : Bool) → active mode h ≡ u → adaptive (cond s Coding.Nothing (cond t Coding.Book (cond u Coding.Adaptive Coding.Fixed))) ≡ u
-    go true p t r u e = let z = eqb-true h 0 p in active-low mode h (omega arith) ∙ e
-    go false p true r u e = let z = leb-true h 7 r in active-low mode h (omega arith) ∙ e
-    go false p false r true e = refl
-    go false p false r false e = refl
-
 -- ---- the gains that a mode allows
-or-none : (b : Bool) → b ≡ b || false
-or-none true = refl
-or-none false = refl
-
 module _ (mode g : ℕ) where
   pub allowed-one : g ≡ 1 → true ≡ allowedGain mode g
   unfolding allowedGain
@@ -115,11 +95,11 @@ module _ (mode g : ℕ) where
   module _ (n : g ≡ 1 → ⊥) where
     pub allowed-1 : mode ≡ 1 → eqb g 2 ≡ allowedGain mode g
     unfolding allowedGain otherGains
-    allowed-1 e = or-none (eqb g 2) ∙ sym (ap (λ (m : ℕ). allowedGain m g) e ∙ rw (ne-eqb g 1 n))
+    allowed-1 e = sym (or-false (eqb g 2)) ∙ sym (ap (λ (m : ℕ). allowedGain m g) e ∙ rw (ne-eqb g 1 n))
 
     pub allowed-2 : mode ≡ 2 → eqb g 4 ≡ allowedGain mode g
     unfolding allowedGain otherGains
-    allowed-2 e = or-none (eqb g 4) ∙ sym (ap (λ (m : ℕ). allowedGain m g) e ∙ rw (ne-eqb g 1 n))
+    allowed-2 e = sym (or-false (eqb g 4)) ∙ sym (ap (λ (m : ℕ). allowedGain m g) e ∙ rw (ne-eqb g 1 n))
 
     pub allowed-3-two : mode ≡ 3 → g ≡ 2 → true ≡ allowedGain mode g
     unfolding allowedGain otherGains
@@ -127,7 +107,7 @@ module _ (mode g : ℕ) where
 
     pub allowed-3-four : mode ≡ 3 → (g ≡ 2 → ⊥) → eqb g 4 ≡ allowedGain mode g
     unfolding allowedGain otherGains
-    allowed-3-four e q = or-none (eqb g 4) ∙ sym (ap (λ (m : ℕ). allowedGain m g) e ∙ rw (ne-eqb g 1 n, ne-eqb g 2 q))
+    allowed-3-four e q = sym (or-false (eqb g 4)) ∙ sym (ap (λ (m : ℕ). allowedGain m g) e ∙ rw (ne-eqb g 1 n, ne-eqb g 2 q))
 
     pub allowed-none : (mode ≡ 1 → ⊥) → (mode ≡ 2 → ⊥) → (mode ≡ 3 → ⊥) → false ≡ allowedGain mode g
     unfolding allowedGain otherGains

@@ -17,10 +17,11 @@ use Rattle.bits.specs.declared.BitPos.{BitPos}
 use Rattle.bits.specs.declared.BitRead.{BitRead}
 use Rattle.bits.specs.declared.BitRead.the-variants.{Number}
 use Rattle.bits.proofs.Laws.{number-take-lt, read-good}
-use Rattle.gains.specs.Gains.{endbap, marked, gaqbinOf, markedBins, fillGaqbin, gaqbinAfter, gainValue, otherGains, member, allowedGain, wordBits, wordCodes, wordsRead, wordsEnd, codesFrom, gainCodes, readGaqGains, gainsAfter, placed}
+use Rattle.gains.specs.Gains.{endbap, marked, gaqbinOf, markedBins, fillGaqbin, gaqbinAfter, gainValue, otherGains, member, allowedGain, wordBits, wordCodes, wordsRead, wordsEnd, codesFrom, gainCodes, readGaqGains, gainsAfter}
+use Rattle.gains.specs.Work.{placed}
 use Rattle.gains.specs.declared.GainsResult.{GainsResult}
 use Rattle.gains.specs.declared.GainsResult.the-variants.{Codes}
-use Rattle.gains.specs.declared.CountResult.the-variants.{Count}
+use Rattle.answers.specs.declared.SizeResult.the-variants.{Value}
 
 -- ---- a list cut at a number, or at its own length where that is smaller
 module _ {A : Type 0} where
@@ -84,7 +85,7 @@ module _ (mode : ℕ) (row : List ℕ) (l out : List ℤ) (n active : ℕ) (f : 
         )
 
   -- after the loop
-  pub marked-all : mode ≤ 3 → n ≡ min (length row) (length l) → (Count active ≡ fillGaqbin mode row (length l)) × (out ≡ gaqbinAfter mode row l)
+  pub marked-all : mode ≤ 3 → n ≡ min (length row) (length l) → (Value active ≡ fillGaqbin mode row (length l)) × (out ≡ gaqbinAfter mode row l)
   unfolding fillGaqbin gaqbinAfter
   marked-all h e =
       let b : out ≡ map (gaqbinOf mode) (take (length l) row) ++ drop (length row) l =

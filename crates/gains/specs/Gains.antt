@@ -1,4 +1,5 @@
--- Gain-adaptive quantisation: which bins have a gain, and how gains stand in the field. ATSC A/52 Annex E, 3.4.2 and 3.4.4.2, Tables E3.3 and E3.4.
+-- Gain-adaptive quantisation: which bins have a gain, and how gains stand in the field. ATSC A/52 Annex E, 3.4.2 and
+-- 3.4.4.2, Tables E3.3 and E3.4.
 use Prim.Native.Nat.{ℕ, zero, suc, _+_, _-_, _*_, _/_, _%_, min}
 use mathlib.Core.List.{List, [], _∷_, _++_, map}
 use mathlib.Core.Bool.{Bool, false, cond, not, _&&_, _||_}
@@ -6,13 +7,14 @@ use lib.Dec.{eqb, leb, ltb}
 use lib.IntN.{ℤ, pos, negsuc}
 use lib.ListN.{length, take, drop}
 use Rattle.bits.specs.Bits.{numberOf, bitsOf, posOf}
-use Rattle.gains.specs.declared.ByteResult.{ByteResult}
-use Rattle.gains.specs.declared.ByteResult.the-variants.{Value}
-use Rattle.gains.specs.declared.CountResult.{CountResult}
-use Rattle.gains.specs.declared.CountResult.the-variants.{Count}
+use Rattle.bits.specs.declared.BitPos.{BitPos}
+use Rattle.answers.specs.declared.ByteResult.{ByteResult}
+use Rattle.answers.specs.declared.SizeResult.{SizeResult}
 use Rattle.gains.specs.declared.Coding.{Coding}
 use Rattle.gains.specs.declared.GainsResult.{GainsResult}
+use Rattle.gains.specs.declared.GroupCodes.{GroupCodes}
 use Rattle.gains.specs.declared.GainsResult.the-variants.{Codes}
+use Rattle.answers.specs.Causes as cause
 
 -- ---- which bins have a gain (3.4.2)
 -- gains are for hebap 8 up to endbap, not included; mode 0 has the endbap of mode 1, though no gain is read there
@@ -35,7 +37,8 @@ markedBins mode (h ∷ row) = cond (marked mode h) 1 0 + markedBins mode row
 unfoldable pub active : ℕ → ℕ → Bool
 active mode h = not (eqb mode 0) && marked mode h
 
--- how a bin is coded: hebap 0 not at all, 1 to 7 by an index of its book, 8 to 19 by six codes, at its own gain or at Gk 1
+-- how a bin is coded: hebap 0 not at all, 1 to 7 by an index of its book, 8 to 19 by six codes, at its own gain or at
+-- Gk 1
 unfoldable pub codingOf : ℕ → ℕ → Coding
 codingOf mode h =
     cond (eqb h 0) Coding.Nothing
@@ -74,9 +77,27 @@ wordBits mode = cond (eqb mode 3) 5 1
 unfoldable pub gainWordBits : ℕ → ℕ → ℕ
 gainWordBits mode n = wordBits mode * sections mode n
 
--- the codes of a gain word: the bit itself, or grpgain / 9, grpgain % 9 / 3 and grpgain % 9 % 3, where words 27 to 31 have their first cut to 2 (as the Rust)
+-- the three codes of a group word: grpgain / 9, grpgain % 9 / 3 and grpgain % 9 % 3; words 27 to 31 have their first
+-- cut to 2, as the Rust
+abbrev pub firstCode : ℕ → ℕ
+firstCode w = min 2 (w / 9)
+
+abbrev pub secondCode : ℕ → ℕ
+secondCode w = w % 9 / 3
+
+abbrev pub thirdCode : ℕ → ℕ
+thirdCode w = w % 9 % 3
+
+abbrev pub groupCodes : ℕ → GroupCodes
+groupCodes w = record { first = firstCode w; second = secondCode w; third = thirdCode w }
+
+-- the word of three codes
+abbrev pub groupOf : ℕ → ℕ → ℕ → ℕ
+groupOf a b c = 9 * a + 3 * b + c
+
+-- the codes of a gain word: the bit itself, or three
 unfoldable pub wordCodes : ℕ → ℕ → List ℕ
-wordCodes mode w = cond (eqb mode 3) (min 2 (w / 9) ∷ w % 9 / 3 ∷ w % 9 % 3 ∷ []) (w ∷ [])
+wordCodes mode w = cond (eqb mode 3) (firstCode w ∷ secondCode w ∷ thirdCode w ∷ []) (w ∷ [])
 
 -- the codes of n words that stand one after the other
 unfoldable pub codesFrom : ℕ → ℕ → List Bool → List ℕ
@@ -85,17 +106,17 @@ codesFrom mode (suc n) bs = wordCodes mode (numberOf (take (wordBits mode) bs)) 
 
 -- ---- what the functions answer; a mode above 3 gives 12
 unfoldable pub endbapForGaqmod : ℕ → ByteResult
-endbapForGaqmod mode = cond (leb mode 3) (Value (endbap mode)) (ByteResult.Refused 12)
+endbapForGaqmod mode = cond (leb mode 3) (ByteResult.Value (endbap mode)) (ByteResult.Refused cause.outOfRange)
 
 unfoldable pub gaqGainValue : ℕ → ℕ → ByteResult
-gaqGainValue code mode = cond (leb mode 3) (Value (gainValue code mode)) (ByteResult.Refused 12)
+gaqGainValue code mode = cond (leb mode 3) (ByteResult.Value (gainValue code mode)) (ByteResult.Refused cause.outOfRange)
 
-unfoldable pub gaqSections : ℕ → ℕ → CountResult
-gaqSections mode n = cond (leb mode 3) (Count (sections mode n)) (CountResult.Refused 12)
+unfoldable pub gaqSections : ℕ → ℕ → SizeResult
+gaqSections mode n = cond (leb mode 3) (SizeResult.Value (sections mode n)) (SizeResult.Refused cause.outOfRange)
 
 -- as many bins as the row has, and no more than there are places
-unfoldable pub fillGaqbin : ℕ → List ℕ → ℕ → CountResult
-fillGaqbin mode row places = cond (leb mode 3) (Count (markedBins mode (take places row))) (CountResult.Refused 12)
+unfoldable pub fillGaqbin : ℕ → List ℕ → ℕ → SizeResult
+fillGaqbin mode row places = cond (leb mode 3) (SizeResult.Value (markedBins mode (take places row))) (SizeResult.Refused cause.outOfRange)
 
 unfoldable pub gaqbinAfter : ℕ → List ℕ → List ℤ → List ℤ
 gaqbinAfter mode row out = cond (leb mode 3) (map (gaqbinOf mode) (take (length out) row) ++ drop (length row) out) out
@@ -119,8 +140,21 @@ readGaqGains s at mode n places =
     cond (leb mode 3)
     (cond (leb (wordsEnd at mode n places) (8 * length s))
     (Codes (length (gainCodes s at mode n places)) (posOf (wordsEnd at mode n places)))
-    (GainsResult.Refused 8))
-    (GainsResult.Refused 12)
+    (GainsResult.Refused cause.inputEnds))
+    (GainsResult.Refused cause.outOfRange)
+
+-- its number, how many codes, and the position; what stood there before where it refuses
+abbrev pub gainsNumber : GainsResult → ℕ
+gainsNumber (GainsResult.Codes k q) = 0
+gainsNumber (GainsResult.Refused n) = n
+
+abbrev pub gainsValue : ℕ → GainsResult → ℕ
+gainsValue v (GainsResult.Codes k q) = k
+gainsValue v (GainsResult.Refused n) = v
+
+abbrev pub gainsPlace : BitPos → GainsResult → BitPos
+gainsPlace p (GainsResult.Codes k q) = q
+gainsPlace p (GainsResult.Refused n) = p
 
 unfoldable pub gainsAfter : List ℕ → ℕ → ℕ → ℕ → List ℕ → List ℕ
 gainsAfter s at mode n out =
@@ -129,8 +163,3 @@ gainsAfter s at mode n out =
     (gainCodes s at mode n (length out) ++ drop (length (gainCodes s at mode n (length out))) out)
     out)
     out
-
--- ---- a step of the code
--- codes put from the place k on, as many as there are places for
-unfoldable pub placed : List ℕ → ℕ → List ℕ → List ℕ
-placed out k codes = take k out ++ (take (length out - k) codes ++ drop (k + length codes) out)

@@ -6,21 +6,12 @@ ghost use Prim.Native.Nat.{_+_, _*_, _/_, _≤_, min};
 ghost use lib.Dec.{eqb};
 ghost use lib.ListN.{length, drop};
 ghost use Rattle.bits.specs.Bits.{bitsOf, bitAt};
-ghost use Rattle.gains.specs.Gains.{active, codingOf, allowedGain, gainWordBits, endbapForGaqmod, gainValue, gaqGainValue, gaqSections, fillGaqbin, gaqbinAfter, endbap, gaqbinOf, wordBits, wordCodes, wordsRead, codesFrom, placed, readGaqGains, gainsAfter};
+ghost use Rattle.gains.specs.Gains.{active, codingOf, allowedGain, gainWordBits, endbapForGaqmod, gainValue, gaqGainValue, gaqSections, fillGaqbin, gaqbinAfter, endbap, gaqbinOf, wordBits, firstCode, groupCodes, groupOf, wordCodes, wordsRead, codesFrom, readGaqGains, gainsAfter};
+ghost use Rattle.gains.specs.Work.{placed};
+use answers::ByteResult;
+use answers::SizeResult;
 use bits::BitPos;
 use bits::BitRead;
-
-// A small number, or the number of the refusal.
-pub enum ByteResult {
-    Value(u8),
-    Refused(u8),
-}
-
-// A count, or the number of the refusal.
-pub enum CountResult {
-    Count(usize),
-    Refused(u8),
-}
 
 // What read_gaq_gains answers: how many codes it put out and the advanced position, or the number of the refusal.
 pub enum GainsResult {
@@ -36,7 +27,7 @@ pub enum Coding {
     Adaptive,
 }
 
-// How a bin of the hebap is coded in the mode.
+// How a bin of the hebap is coded in the mode; 12 and 17 are the ends of the active hebaps (`end_of`), as match arms.
 pub fn coding_of(gaqmod: u8, hebap: u8) -> Coding
     ensures { λ r. ⌜ r ≡ codingOf gaqmod hebap ⌝ }
 {
@@ -65,14 +56,11 @@ pub fn coding_of(gaqmod: u8, hebap: u8) -> Coding
 fn active_end(gaqmod: u8) -> u8
     ensures { λ r. ⌜ r ≡ cond (eqb gaqmod 0) 8 (endbap gaqmod) ⌝ }
 {
-    match gaqmod {
-        0 => 8,
-        1 => 12,
-        _ => 17,
-    }
+    if gaqmod == 0 { 8 } else { end_of(gaqmod) }
 }
 
-// Whether a bin of the hebap has a gain of its own in the mode. Two comparisons, so that loops over a row take several bins at a time.
+// Whether a bin of the hebap has a gain of its own in the mode. Two comparisons, so that loops over a row take
+// several bins at a time.
 pub fn is_active(gaqmod: u8, hebap: u8) -> bool
     ensures { λ r. ⌜ r ≡ active gaqmod hebap ⌝ }
 {
@@ -120,12 +108,13 @@ fn end_of(gaqmod: u8) -> u8
     if gaqmod < 2 { 12 } else { 17 }
 }
 
-// Bins of hebap 8 up to this one, not included, are marked (fill_gaqbin), also in mode 0. Refuses a mode above 3 with 12.
+// Bins of hebap 8 up to this one, not included, are marked (fill_gaqbin), also in mode 0. Refuses a mode above 3 with
+// 12.
 pub fn endbap_for_gaqmod(gaqmod: u8) -> ByteResult
     ensures { λ r. ⌜ r ≡ endbapForGaqmod gaqmod ⌝ }
 {
     if 3 < gaqmod {
-        return ByteResult::Refused(12);
+        return ByteResult::Refused(answers::OUT_OF_RANGE);
     }
     ByteResult::Value(end_of(gaqmod))
 }
@@ -145,13 +134,14 @@ fn mark(gaqmod: u8, h: u8) -> i8
     if 7 < h { 1 } else { 0 }
 }
 
-// Marks each bin of the row: 1 for hebap 8 to endbap - 1, also in mode 0, where no gain is read; -1 from endbap on; else 0. Answers how many are 1. Refuses a mode above 3 with 12.
-pub fn fill_gaqbin(hebap: &[u8], gaqmod: u8, gaqbin: &mut [i8]) -> CountResult
+// Marks each bin of the row: 1 for hebap 8 to endbap - 1, also in mode 0, where no gain is read; -1 from endbap on;
+// else 0. Answers how many are 1. Refuses a mode above 3 with 12.
+pub fn fill_gaqbin(hebap: &[u8], gaqmod: u8, gaqbin: &mut [i8]) -> SizeResult
     ensures { λ r. ⌜ r ≡ fillGaqbin gaqmod (now (hebap .entry)) (length (now (gaqbin .entry))) ⌝ }
     ensures { λ r. ⌜ now (gaqbin .exit) ≡ gaqbinAfter gaqmod (now (hebap .entry)) (now (gaqbin .entry)) ⌝ }
 {
     if 3 < gaqmod {
-        return CountResult::Refused(12);
+        return SizeResult::Refused(answers::OUT_OF_RANGE);
     }
     let n = least(hebap.len(), gaqbin.len());
     let mut active: usize = 0;
@@ -164,25 +154,25 @@ pub fn fill_gaqbin(hebap: &[u8], gaqmod: u8, gaqbin: &mut [i8]) -> CountResult
         }
         i += 1;
     }
-    CountResult::Count(active)
+    SizeResult::Value(active)
 }
 
 // The gain words of so many active bins. Refuses a mode above 3 with 12.
-pub fn gaq_sections(gaqmod: u8, active_gaqbins: usize) -> CountResult
+pub fn gaq_sections(gaqmod: u8, active_gaqbins: usize) -> SizeResult
     ensures { λ r. ⌜ r ≡ gaqSections gaqmod «active_gaqbins» ⌝ }
 {
     match gaqmod {
-        0 => CountResult::Count(0),
-        1 | 2 => CountResult::Count(active_gaqbins),
+        0 => SizeResult::Value(0),
+        1 | 2 => SizeResult::Value(active_gaqbins),
         3 => {
             let whole = active_gaqbins / 3;
             if active_gaqbins % 3 == 0 {
-                CountResult::Count(whole)
+                SizeResult::Value(whole)
             } else {
-                CountResult::Count(whole + 1)
+                SizeResult::Value(whole + 1)
             }
         }
-        _ => CountResult::Refused(12),
+        _ => SizeResult::Refused(answers::OUT_OF_RANGE),
     }
 }
 
@@ -206,7 +196,7 @@ pub fn gaq_gain_value(code: u8, gaqmod: u8) -> ByteResult
     ensures { λ r. ⌜ r ≡ gaqGainValue code gaqmod ⌝ }
 {
     if 3 < gaqmod {
-        return ByteResult::Refused(12);
+        return ByteResult::Refused(answers::OUT_OF_RANGE);
     }
     ByteResult::Value(gain_value(code, gaqmod))
 }
@@ -242,11 +232,37 @@ fn put_code(out: &mut [u8], k: usize, code: u8) -> usize
     k
 }
 
-// The first code of a group word.
+// The three codes of a group word.
+pub struct GroupCodes {
+    pub first: u8,
+    pub second: u8,
+    pub third: u8,
+}
+
 fn first_code(word: u32) -> u8
-    ensures { λ r. ⌜ r ≡ min 2 (word / 9) ⌝ }
+    ensures { λ r. ⌜ r ≡ firstCode word ⌝ }
 {
     if word < 18 { (word / 9) as u8 } else { 2 }
+}
+
+// A group word taken apart; words 27 to 31 have their first code cut to 2.
+pub fn unpack(word: u32) -> GroupCodes
+    requires { ⌜ word ≤ 31 ⌝ }
+    ensures { λ r. ⌜ r ≡ groupCodes word ⌝ }
+{
+    GroupCodes {
+        first: first_code(word),
+        second: (word % 9 / 3) as u8,
+        third: (word % 9 % 3) as u8,
+    }
+}
+
+// The group word of three codes.
+pub fn pack(first: u32, second: u32, third: u32) -> u32
+    requires { ⌜ (first ≤ 2) × (second ≤ 2) × (third ≤ 2) ⌝ }
+    ensures { λ r. ⌜ r ≡ groupOf first second third ⌝ }
+{
+    9 * first + 3 * second + third
 }
 
 // The codes of a word go to the places from k on, as far as there are any; answers the next place.
@@ -257,9 +273,10 @@ fn put_word(out: &mut [u8], k: usize, gaqmod: u8, word: u32) -> usize
     ensures { λ r. ⌜ now (out .exit) ≡ placed (now (out .entry)) k (wordCodes gaqmod word) ⌝ }
 {
     if gaqmod == 3 {
-        let a = put_code(&mut *out, k, first_code(word));
-        let b = put_code(&mut *out, a, (word % 9 / 3) as u8);
-        return put_code(&mut *out, b, (word % 9 % 3) as u8);
+        let c = unpack(word);
+        let a = put_code(&mut *out, k, c.first);
+        let b = put_code(&mut *out, a, c.second);
+        return put_code(&mut *out, b, c.third);
     }
     put_code(&mut *out, k, word as u8)
 }
@@ -290,7 +307,8 @@ fn put_words(src: &[u8], pos: BitPos, gaqmod: u8, n: usize, out: &mut [u8]) -> u
     k
 }
 
-// Reads nsections gain words and puts their codes 0 to 2 to the front of the output, as far as it goes. Refuses with 12, then 8.
+// Reads nsections gain words and puts their codes 0 to 2 to the front of the output, as far as it goes. Refuses with
+// 12, then 8.
 pub fn read_gaq_gains(
     src: &[u8],
     pos: BitPos,
@@ -302,14 +320,14 @@ pub fn read_gaq_gains(
     ensures { λ r. ⌜ now (out .exit) ≡ gainsAfter (now (src .entry)) (bitAt pos) gaqmod nsections (now (out .entry)) ⌝ }
 {
     if 3 < gaqmod {
-        return GainsResult::Refused(12);
+        return GainsResult::Refused(answers::OUT_OF_RANGE);
     }
     let n = words_read(gaqmod, nsections, out.len());
     let w = word_bits(gaqmod);
-    if pos.holds(src.len(), w, n) {
+    if pos.has_bits(src.len(), w, n) {
         let k = put_words(src, pos, gaqmod, n, &mut *out);
-        GainsResult::Codes(k, pos.after(w, n))
+        GainsResult::Codes(k, pos.advance(w, n))
     } else {
-        GainsResult::Refused(8)
+        GainsResult::Refused(answers::INPUT_ENDS)
     }
 }

@@ -1,4 +1,4 @@
--- A code's bits and the code determine each other; which codes are read; how many bits a code takes; how one is read, by its cases. Assumes nothing.
+-- A code and its bits determine each other; which codes are accepted, their width, reading by cases. Assumes nothing.
 use Prim.Native.Nat.{ℕ, _+_, _-_, _^_, _≤_, _<_}
 use mathlib.Core.Path.{_≡_, refl, sym, ap, _∙_}
 use mathlib.Core.List.{List}

@@ -1,6 +1,6 @@
 -- What the codes of a hebap and a gain have in common, field by field, and the value of a code by it. Assumes nothing.
-use Prim.Native.Nat.{ℕ, zero, suc, _-_, _*_, _^_, _≤_}
-use mathlib.Core.Path.{_≡_, refl, sym, ap, _∙_}
+use Prim.Native.Nat.{ℕ, zero, suc, _-_, _*_, _^_, _≤_, _<_}
+use mathlib.Core.Path.{_≡_, refl, sym, ap, _∙_, subst}
 use mathlib.Core.Bool.{Bool, true, false, cond}
 use mathlib.Core.Logic.{_⊎_, inl, inr}
 use native.Mathlib.Nat.{mul-assoc, mul-zero}
@@ -19,8 +19,8 @@ use Rattle.levels.specs.declared.CodeScale.{CodeScale}
 use Rattle.levels.specs.Codes.{signed, smallBits, largeBits}
 use Rattle.levels.specs.Exact.{slope, offset, offsetBelow, offsetBySign, isNegative, exactOf}
 use Rattle.levels.specs.Value.{f0, f1, power, scaled, divided, smallValue, levelOf, valueOf}
-use Rattle.levels.specs.Work.{remapOf, remapBy, scaleOf}
-use Rattle.levels.proofs.Signed.{back, large-width}
+use Rattle.levels.specs.Work.{remapOf, remapBy, scaleOf, IsScale}
+use Rattle.levels.proofs.Signed.{by-test, back, small-width, large-width}
 use Rattle.levels.proofs.Sizes.{mag-abs, abs-mul, unit-size, offset-size}
 use Rattle.levels.proofs.Scaling.{scaled-divided, large-value}
 use Rattle.levels.proofs.Remapping.{remap-by}
@@ -51,6 +51,8 @@ pub all-is : (h g : ℕ) (r : Remap) (a b : ℕ) (x y : Float) (i j k l : ℤ) �
     → x ≡ power (mantBits h - 1) → y ≡ power (largeBits (mantBits h) g - 1) → i ≡ pos (2 ^ (31 - mantBits h))
     → j ≡ (pos 32768 +ℤ slope h g) *ℤ pos (2 ^ (cond (eqb g 2) 17 16 - mantBits h)) → k ≡ offset h g *ℤ pos (2 ^ 15) → l ≡ offsetBelow h g *ℤ pos (2 ^ 15)
     → record {
+      hebap = h;
+      gk = g;
       remap = r;
       small = a;
       large = b;
@@ -65,109 +67,132 @@ pub all-is : (h g : ℕ) (r : Remap) (a b : ℕ) (x y : Float) (i j k l : ℤ) �
 unfolding scaleOf
 all-is h g r a b x y i j k l er ea eb ex ey ei ej ek el = rw (er, ea, eb, ex, ey, ei, ej, ek, el)
 
+-- a scale that was worked out is that of the hebap and the gain that it names
+pub scale-is : (h g : ℕ) → 8 ≤ h → h ≤ 19 → (s : CodeScale) → s ≡ scaleOf h g → IsScale s
+unfolding scaleOf
+scale-is h g low high s e = subst IsScale (sym e) (record { low = low; high = high; is = refl })
+
+pub scale-names : (h g : ℕ) (s : CodeScale) → s ≡ scaleOf h g → (s .hebap ≡ h) × (s .gk ≡ g)
+unfolding scaleOf
+scale-names h g s e = (ap (λ (t : CodeScale). t .hebap) e, ap (λ (t : CodeScale). t .gk) e)
+
 -- ---- the fields
-module _ (h g : ℕ) (s : CodeScale) (e : s ≡ scaleOf h g) where
+module _ (s : CodeScale) (i : IsScale s) where
+  abbrev h : ℕ
+  h = s .hebap
+
+  abbrev g : ℕ
+  g = s .gk
+
+  pub m-range : (3 ≤ mantBits h) × (mantBits h ≤ 16)
+  m-range = mant-bits h (i .low) (i .high)
+
   remap-is : s .remap ≡ remapOf h g
   unfolding scaleOf
-  remap-is = ap (λ (t : CodeScale). t .remap) e
+  remap-is = ap (λ (t : CodeScale). t .remap) (i .is)
 
   pub small-is : s .small ≡ smallBits (mantBits h) g
   unfolding scaleOf
-  small-is = ap (λ (t : CodeScale). t .small) e
+  small-is = ap (λ (t : CodeScale). t .small) (i .is)
 
   pub large-is : s .large ≡ largeBits (mantBits h) g
   unfolding scaleOf
-  large-is = ap (λ (t : CodeScale). t .large) e
+  large-is = ap (λ (t : CodeScale). t .large) (i .is)
 
   small-part-is : s .«small_part» ≡ div binary32 f1 (power (mantBits h - 1))
   unfolding scaleOf
-  small-part-is = ap (λ (t : CodeScale). t .«small_part») e
+  small-part-is = ap (λ (t : CodeScale). t .«small_part») (i .is)
 
   large-part-is : s .«large_part» ≡ div binary32 f1 (power (largeBits (mantBits h) g - 1))
   unfolding scaleOf
-  large-part-is = ap (λ (t : CodeScale). t .«large_part») e
+  large-part-is = ap (λ (t : CodeScale). t .«large_part») (i .is)
 
   pub small-unit-is : s .«small_unit» ≡ pos (2 ^ (31 - mantBits h))
   unfolding scaleOf
-  small-unit-is = ap (λ (t : CodeScale). t .«small_unit») e
+  small-unit-is = ap (λ (t : CodeScale). t .«small_unit») (i .is)
 
   pub large-unit-is : s .«large_unit» ≡ (pos 32768 +ℤ slope h g) *ℤ pos (2 ^ (cond (eqb g 2) 17 16 - mantBits h))
   unfolding scaleOf
-  large-unit-is = ap (λ (t : CodeScale). t .«large_unit») e
+  large-unit-is = ap (λ (t : CodeScale). t .«large_unit») (i .is)
 
   pub up-is : s .up ≡ offsetBySign h g false *ℤ pos (2 ^ 15)
   unfolding scaleOf
-  up-is = ap (λ (t : CodeScale). t .up) e
+  up-is = ap (λ (t : CodeScale). t .up) (i .is)
 
   pub below-is : s .below ≡ offsetBySign h g true *ℤ pos (2 ^ 15)
   unfolding scaleOf
-  below-is = ap (λ (t : CodeScale). t .below) e
+  below-is = ap (λ (t : CodeScale). t .below) (i .is)
+
+  -- ---- what is asked of a code's bits
+  pub small-asked : (u : ℕ) → u < 2 ^ smallBits (mantBits h) g → (1 ≤ s .small) × (s .small ≤ 16) × (u < 2 ^ s .small)
+  small-asked u l = let w = small-width (mantBits h) g (m-range .0) (m-range .1) in rw small-is (w .0, w .1, l)
+
+  pub large-asked : (u : ℕ) → u < 2 ^ largeBits (mantBits h) g → (1 ≤ s .large) × (s .large ≤ 16) × (u < 2 ^ s .large)
+  large-asked u l = let w = large-width (mantBits h) g (m-range .0) (m-range .1) in rw large-is (w .0, w .1, l)
 
   -- ---- the exact ones, as they are read back
-  module _ (low : 8 ≤ h) (high : h ≤ 19) where
-    pub small-unit-back : toZ w32 (ofZ w32 (s .«small_unit»)) ≡ pos (2 ^ (31 - mantBits h))
-    small-unit-back =
-        let m = mant-bits h low high in
-        back w32 (s .«small_unit») (rw small-unit-is (pow-lt {j = 31} (omega arith))) small-unit-is
+  pub small-unit-back : toZ w32 (ofZ w32 (s .«small_unit»)) ≡ pos (2 ^ (31 - mantBits h))
+  small-unit-back =
+      let m = m-range in
+      back w32 (s .«small_unit») (rw small-unit-is (pow-lt {j = 31} (omega arith))) small-unit-is
 
-    pub large-unit-back : toZ w32 (ofZ w32 (s .«large_unit»)) ≡ (pos 32768 +ℤ slope h g) *ℤ pos (2 ^ (cond (eqb g 2) 17 16 - mantBits h))
-    large-unit-back =
+  pub large-unit-back : toZ w32 (ofZ w32 (s .«large_unit»)) ≡ (pos 32768 +ℤ slope h g) *ℤ pos (2 ^ (cond (eqb g 2) 17 16 - mantBits h))
+  large-unit-back =
+      let z = pos 32768 +ℤ slope h g in
+      let p = 2 ^ (cond (eqb g 2) 17 16 - mantBits h) in
+      back w32 (s .«large_unit») (rw large-unit-is (omega (arith, mag-abs (z *ℤ pos p), abs-mul z (pos p), unit-size h g (i .low) (i .high)))) large-unit-is
+
+  offset-back : (t : Bool) (x : ℤ) → x ≡ offsetBySign h g t *ℤ pos (2 ^ 15) → toZ w32 (ofZ w32 x) ≡ offsetBySign h g t *ℤ pos (2 ^ 15)
+  offset-back t x q =
+      let b = offsetBySign h g t in
+      back w32 x (rw q (omega (arith, mag-abs (b *ℤ pos (2 ^ 15)), abs-mul b (pos (2 ^ 15)), offset-size h g (i .low) (i .high) t))) q
+
+  pub up-back : toZ w32 (ofZ w32 (s .up)) ≡ offsetBySign h g false *ℤ pos (2 ^ 15)
+  up-back = offset-back false (s .up) up-is
+
+  pub below-back : toZ w32 (ofZ w32 (s .below)) ≡ offsetBySign h g true *ℤ pos (2 ^ 15)
+  below-back = offset-back true (s .below) below-is
+
+  -- ---- the f32 value of a code
+  pub small-value-by : (u : ℕ) (k : ℤ) → k ≡ signed (s .small) u → mul binary32 (ofInt binary32 k) (s .«small_part») ≡ valueOf h g (Code.Small u)
+  unfolding levelOf smallValue scaled
+  small-value-by u k q = rw (q, small-is, small-part-is)
+
+  pub large-value-by : (u : ℕ) (k : ℤ) → k ≡ signed (s .large) u → remapBy (s .remap) (mul binary32 (ofInt binary32 k) (s .«large_part»)) ≡ valueOf h g (Code.Large u)
+  unfolding levelOf scaled
+  large-value-by u k q =
+      let n = largeBits (mantBits h) g - 1 in
+      let l = signed (largeBits (mantBits h) g) u in
+      let m = m-range in
+      let w = large-width (mantBits h) g (m .0) (m .1) in
+      let a : mul binary32 (ofInt binary32 k) (s .«large_part») ≡ divided n l = rw (q, large-is, large-part-is) (scaled-divided n l (by-test (λ (k : ℕ). 1 ≤ k - 1) (eqb g 2) (mantBits h - 1) (mantBits h) (omega arith) (omega arith)) (omega arith)) in
+      rw (a, remap-is) (remap-by h g (divided n l) ∙ sym (large-value h (i .low) (i .high) g l))
+
+  -- ---- Gk 1: b is 0 on both sides
+  module _ (one : s .gk ≡ 1) where
+    pub fixed-value-by : (u : ℕ) (k : ℤ) → k ≡ signed (s .large) u → let x = mul binary32 (ofInt binary32 k) (s .«large_part») in
+        add binary32 (add binary32 x (mul binary32 (s .remap .a) x)) (s .remap .up) ≡ valueOf h g (Code.Large u)
+    unfolding remapBy remapOf
+    fixed-value-by u k q =
+        let x = mul binary32 (ofInt binary32 k) (s .«large_part») in
+        let b : s .remap .below ≡ s .remap .up = rw (remap-is, one) in
+        same (le f0 x) b ∙ large-value-by u k q
+      where
+        same : (t : Bool) → s .remap .below ≡ s .remap .up → let x = mul binary32 (ofInt binary32 k) (s .«large_part») in
+            add binary32 (add binary32 x (mul binary32 (s .remap .a) x)) (s .remap .up)
+            ≡ add binary32 (add binary32 x (mul binary32 (s .remap .a) x)) (cond t (s .remap .up) (s .remap .below))
+        same true b = refl
+        same false b = rw b
+
+    pub fixed-exact-by : (u : ℕ) → let l = signed (largeBits (mantBits h) g) u in
+        l *ℤ ((pos 32768 +ℤ slope h g) *ℤ pos (2 ^ (cond (eqb g 2) 17 16 - mantBits h))) ≡ exactOf h g (Code.Large u)
+    unfolding exactOf
+    fixed-exact-by u =
+        let l = signed (largeBits (mantBits h) g) u in
         let z = pos 32768 +ℤ slope h g in
         let p = 2 ^ (cond (eqb g 2) 17 16 - mantBits h) in
-        back w32 (s .«large_unit») (rw large-unit-is (omega (arith, mag-abs (z *ℤ pos p), abs-mul z (pos p), unit-size h g low high))) large-unit-is
-
-    offset-back : (t : Bool) (x : ℤ) → x ≡ offsetBySign h g t *ℤ pos (2 ^ 15) → toZ w32 (ofZ w32 x) ≡ offsetBySign h g t *ℤ pos (2 ^ 15)
-    offset-back t x q =
-        let b = offsetBySign h g t in
-        back w32 x (rw q (omega (arith, mag-abs (b *ℤ pos (2 ^ 15)), abs-mul b (pos (2 ^ 15)), offset-size h g low high t))) q
-
-    pub up-back : toZ w32 (ofZ w32 (s .up)) ≡ offsetBySign h g false *ℤ pos (2 ^ 15)
-    up-back = offset-back false (s .up) up-is
-
-    pub below-back : toZ w32 (ofZ w32 (s .below)) ≡ offsetBySign h g true *ℤ pos (2 ^ 15)
-    below-back = offset-back true (s .below) below-is
-
-    -- ---- the f32 value of a code
-    pub small-value-by : (u : ℕ) (k : ℤ) → k ≡ signed (smallBits (mantBits h) g) u → mul binary32 (ofInt binary32 k) (s .«small_part») ≡ valueOf h g (Code.Small u)
-    unfolding levelOf smallValue scaled
-    small-value-by u k q = rw (q, small-part-is)
-
-    pub large-value-by : (u : ℕ) (k : ℤ) → k ≡ signed (largeBits (mantBits h) g) u
-        → remapBy (s .remap) (mul binary32 (ofInt binary32 k) (s .«large_part»)) ≡ valueOf h g (Code.Large u)
-    unfolding levelOf scaled
-    large-value-by u k q =
-        let n = largeBits (mantBits h) g - 1 in
-        let l = signed (largeBits (mantBits h) g) u in
-        let w = large-width (mantBits h) g (mant-bits h low high .0) (mant-bits h low high .1) in
-        let a : mul binary32 (ofInt binary32 k) (s .«large_part») ≡ divided n l = rw (q, large-part-is) (scaled-divided n l (two (eqb g 2)) (omega arith)) in
-        rw (a, remap-is) (remap-by h g (divided n l) ∙ sym (large-value h low high g l))
+        times-assoc l z p ∙ sym (none (isNegative l) (l *ℤ z *ℤ pos p))
       where
-        two : (t : Bool) → 1 ≤ cond t (mantBits h - 1) (mantBits h) - 1
-        two true = let m = mant-bits h low high in omega arith
-        two false = let m = mant-bits h low high in omega arith
-
--- ---- Gk 1: b is 0 on both sides
-module _ (h : ℕ) (s : CodeScale) (e : s ≡ scaleOf h 1) (low : 8 ≤ h) (high : h ≤ 19) where
-  pub fixed-value-by : (u : ℕ) (k : ℤ) → k ≡ signed (mantBits h) u → let x = mul binary32 (ofInt binary32 k) (s .«large_part») in
-      add binary32 (add binary32 x (mul binary32 (s .remap .a) x)) (s .remap .up) ≡ valueOf h 1 (Code.Large u)
-  unfolding remapBy remapOf
-  fixed-value-by u k q =
-      let x = mul binary32 (ofInt binary32 k) (s .«large_part») in
-      let b : s .remap .below ≡ s .remap .up = rw (remap-is h 1 s e) in
-      one (le f0 x) b ∙ large-value-by h 1 s e low high u k q
-    where
-      one : (t : Bool) → s .remap .below ≡ s .remap .up → let x = mul binary32 (ofInt binary32 k) (s .«large_part») in
-          add binary32 (add binary32 x (mul binary32 (s .remap .a) x)) (s .remap .up)
-          ≡ add binary32 (add binary32 x (mul binary32 (s .remap .a) x)) (cond t (s .remap .up) (s .remap .below))
-      one true b = refl
-      one false b = rw b
-
-pub fixed-exact-by : (h u : ℕ) → let l = signed (mantBits h) u in l *ℤ ((pos 32768 +ℤ slope h 1) *ℤ pos (2 ^ (16 - mantBits h))) ≡ exactOf h 1 (Code.Large u)
-unfolding exactOf
-fixed-exact-by h u =
-    let l = signed (mantBits h) u in
-    times-assoc l (pos 32768 +ℤ slope h 1) (2 ^ (16 - mantBits h)) ∙ sym (none (isNegative l) (l *ℤ (pos 32768 +ℤ slope h 1) *ℤ pos (2 ^ (16 - mantBits h))))
-  where
-    none : (t : Bool) (x : ℤ) → x +ℤ offsetBySign h 1 t *ℤ pos (2 ^ 15) ≡ x
-    none true x = +ℤ-idr x
-    none false x = +ℤ-idr x
+        none : (t : Bool) (x : ℤ) → x +ℤ offsetBySign h g t *ℤ pos (2 ^ 15) ≡ x
+        none true x = rw one (+ℤ-idr x)
+        none false x = rw one (+ℤ-idr x)

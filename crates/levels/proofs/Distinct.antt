@@ -1,4 +1,4 @@
--- Codes with equal exact values are equal: for any widths, steps and offsets, from a few facts of them. Assumes nothing.
+-- Codes with equal exact values are equal: for any widths, steps and offsets with a few facts. Assumes nothing.
 use Prim.Native.Nat.{ℕ, zero, suc, _+_, _-_, _*_, _/_, _^_, _≤_, _<_}
 use mathlib.Core.Path.{_≡_, refl, sym, ap, _∙_}
 use mathlib.Core.Bool.{Bool, true, false, cond}
@@ -56,8 +56,9 @@ large-down n z b a q i j h k = rw (h, k) (rw (neg-times (suc n * a) i, neg-times
 below-step : (t m c d : ℕ) → t < m → m * c < d + c → t * c < d
 below-step t m c d h k = let f : suc t * c ≤ m * c = mul-le-mul-right c h in let g : suc t * c ≡ t * c + c = suc-mul t c in omega arith
 
--- What is asked of the steps and offsets: s takes w bits and has the step c, M of its codes are not negative (none where no code is small);
--- l has the slope z * 2 ^ e and the offsets b and b′. The greatest small value lies below that of l = 0, the least above that of l = -1.
+-- What is asked of the steps and offsets: s takes w bits and has the step c, M of its codes are not negative (none
+-- where no code is small); l has the slope z * 2 ^ e and the offsets b and b′. The greatest small value lies below
+-- that of l = 0, the least above that of l = -1.
 pub record Apart (c M : ℕ) (z : ℤ) (e : ℕ) (b b′ : ℤ) : Type 0 where
   pub step : 0 < c
   pub rises : 0 < natAbs z
@@ -94,9 +95,9 @@ module _ (w w′ c M : ℕ) (z : ℤ) (e : ℕ) (b b′ : ℤ) (k : Apart c M z 
   size neg (Code.Small t) = t * c
   size neg (Code.Large t) = t * x + offsetOf neg
 
-  abbrev Within : Bool → Code → Type 0
-  Within neg (Code.Small t) = Positive neg t × (t * c < least neg)
-  Within neg (Code.Large t) = Positive neg t × (least neg ≤ t * x + offsetOf neg)
+  abbrev InPlace : Bool → Code → Type 0
+  InPlace neg (Code.Small t) = Positive neg t × (t * c < least neg)
+  InPlace neg (Code.Large t) = Positive neg t × (least neg ≤ t * x + offsetOf neg)
 
   abbrev codeOf : Bool → Code → Code
   codeOf false p = p
@@ -107,19 +108,19 @@ module _ (w w′ c M : ℕ) (z : ℤ) (e : ℕ) (b b′ : ℤ) (k : Apart c M z 
     neg : Bool
     by : Code
     is : valueBy w w′ c z e b b′ p ≡ signedBy neg (size neg by)
-    within : Within neg by
+    within : InPlace neg by
     code : p ≡ codeOf neg by
 
   x-pos : 0 < x
   x-pos = mul-pos (k .rises) (pow-pos e)
 
-  size-same : (neg : Bool) (p q : Code) → Within neg p → Within neg q → size neg p ≡ size neg q → p ≡ q
+  size-same : (neg : Bool) (p q : Code) → InPlace neg p → InPlace neg q → size neg p ≡ size neg q → p ≡ q
   size-same neg (Code.Small t) (Code.Small t′) h h′ q = ap Code.Small (mul-same c t t′ (k .step) q)
   size-same neg (Code.Small t) (Code.Large t′) h h′ q = absurd (omega arith)
   size-same neg (Code.Large t) (Code.Small t′) h h′ q = absurd (omega arith)
   size-same neg (Code.Large t) (Code.Large t′) h h′ q = let f : t * x ≡ t′ * x = omega arith in ap Code.Large (mul-same x t t′ x-pos f)
 
-  size-positive : (neg : Bool) (p : Code) → Within neg p → Positive neg (size neg p)
+  size-positive : (neg : Bool) (p : Code) → InPlace neg p → Positive neg (size neg p)
   size-positive false p h = tt
   size-positive true (Code.Small t) h = mul-pos (h .0) (k .step)
   size-positive true (Code.Large t) h = let f = mul-pos (h .0) x-pos in omega arith

@@ -1,9 +1,9 @@
 -- The test of a component's size. Assumes nothing.
 use mathlib.Core.Path.{_≡_, refl, sym, ap, _∙_}
-use mathlib.Core.Bool.{Bool, true, false, cond, not, _&&_, _||_, true≢false}
-use mathlib.Core.List.{List, _∷_}
+use mathlib.Core.Bool.{or-false, Bool, true, false, cond, not, _&&_, _||_, true≢false}
+use mathlib.Core.List.{List, _∷_, []}
 use mathlib.Core.Logic.{inl, inr}
-use Prim.Native.Nat.{ℕ, _+_, _-_, _*_, _≤_, _<_}
+use Prim.Native.Nat.{ℕ, suc, zero, _+_, _*_, _≤_, _<_}
 use native.Mathlib.Nat.{eq-or-lt-of-le, mul-one}
 use native.Mathlib.Numerals.{add-one}
 use native.Mathlib.Omega.{arith}
@@ -14,18 +14,11 @@ use lib.ListN.{length, drop, getD, drop-of-length-le}
 use lib.Seq.{drop-cons}
 use lib.Ieee.{Float, nan, inf, fin, up, down, lt, eq, le}
 use lib.Ieee.Fits.{down-pos}
+use Rattle.bits.proofs.Tests.{neither, or-left, or-right}
 use Rattle.levels.specs.Component.{tooLarge, someTooLarge}
 
 abbrev pub f1024 : Float
 f1024 = fin false 1 (pos 10)
-
-or-left : (a b : Bool) → a ≡ true → a || b ≡ true
-or-left true b h = refl
-or-left false b h = absurd (true≢false (sym h))
-
-or-true : (a b : Bool) → b ≡ true → a || b ≡ true
-or-true true b h = refl
-or-true false b h = h
 
 -- a ≤ b as two tests, and as one
 two-tests : (a b : ℕ) (q : Bool) → (a ≡ b → q ≡ true) → ((a ≡ b → ⊥) → q ≡ false) → ltb a b || q ≡ not (ltb b a)
@@ -33,7 +26,7 @@ two-tests a b q y n = go (ltb b a) refl
   where
     small : (a ≤ b) → ltb a b || q ≡ true
     small h = elim (eq-or-lt-of-le h) [
-      | inl e ↦ or-true (ltb a b) q (y e)
+      | inl e ↦ or-right (ltb a b) q (y e)
       | inr l ↦ ap (λ (t : Bool). t || q) (lt-ltb a b l)
     ]
 
@@ -70,10 +63,6 @@ range-out (fin false m e) h = absurd (true≢false (sym (or-left _ _ (lt-ltb 0 (
 range-out (fin true m e) h = sym (sym (lower m e) ∙ h)
 
 -- ---- a loop over components
-or-false : (a : Bool) → a || false ≡ a
-or-false true = refl
-or-false false = refl
-
 -- one component more, not accepted if t
 or-more : (a t b : Bool) → a || (t || b) ≡ cond (not t) a true || b
 or-more true true b = refl
@@ -91,3 +80,9 @@ some-turn x j h found r b er eb i =
 
 pub some-end : (x : List Float) (j : ℕ) → length x ≤ j → (found : Bool) → someTooLarge x ≡ found || someTooLarge (drop j x) → found ≡ someTooLarge x
 some-end x j h found i = sym (i ∙ ap (λ (l : List Float). found || someTooLarge l) (drop-of-length-le x h) ∙ or-false found)
+
+-- of components that are accepted each is
+pub each-accepted : (v : List Float) (d : Float) (j : ℕ) → someTooLarge v ≡ false → j < length v → tooLarge (getD v j d) ≡ false
+each-accepted [] d j h u = absurd (omega arith)
+each-accepted (y ∷ v) d zero h u = neither (tooLarge y) (someTooLarge v) h .0
+each-accepted (y ∷ v) d (suc j) h u = each-accepted v d j (neither (tooLarge y) (someTooLarge v) h .1) (omega arith)

@@ -1,5 +1,5 @@
 -- The remap in two steps is the remap of Table E3.6. And a code as one number. Assumes nothing.
-use Prim.Native.Nat.{ℕ, _+_, _*_, _^_, _<_, _≤_}
+use Prim.Native.Nat.{ℕ}
 use mathlib.Core.Path.{_≡_, refl, ap}
 use mathlib.Core.Bool.{Bool, true, false, cond, not}
 use lib.Ieee.{Float, binary32, add, mul, le}

@@ -1,4 +1,4 @@
--- Equal exact values of accepted codes mean equal codes: one test of the twelve rows, and the law of Distinct. Assumes nothing.
+-- Equal exact values of accepted codes mean equal codes: a test of the twelve rows, and Distinct. Assumes nothing.
 use Prim.Native.Nat.{ℕ, zero, suc, _+_, _-_, _*_, _^_, _≤_}
 use mathlib.Core.Path.{_≡_, refl, sym, _∙_}
 use mathlib.Core.Bool.{Bool, true, false, cond, _&&_}

@@ -1,4 +1,4 @@
--- The f32 that the reader computes for a code, times 1 / 2 ^ n, is the quantiser's, divided by 2 ^ n: 1 / 2 ^ n is exact. Assumes nothing.
+-- The reader's f32 of a code (times 1 / 2 ^ n, which is exact) is the quantiser's (divided by 2 ^ n). Assumes nothing.
 use Prim.Native.Nat.{ℕ, zero, suc, _-_, _*_, _^_, _≤_, _<_}
 use mathlib.Core.Path.{_≡_, refl, sym, ap, _∙_}
 use mathlib.Core.Bool.{Bool, true, false, cond, _&&_}

@@ -3,22 +3,26 @@ use Prim.Native.Nat.{ℕ, zero, suc, _-_, _*_, _^_, _≤_, _<_}
 use mathlib.Core.Path.{_≡_, ap, _∙_}
 use mathlib.Core.Bool.{Bool, true, false, cond}
 use mathlib.Core.Logic.{inl, inr}
-use native.Mathlib.Nat.{le-of-lt, lt-of-lt-of-le, not-suc-le-zero, pow-suc}
+use native.Mathlib.Nat.{lt-of-lt-of-le, not-suc-le-zero, pow-suc}
 use native.Mathlib.Omega.{arith}
 use borrow.Author.Tests.{lt-ltb, le-ltb}
 use lib.Dec.{T, eqb, lt→ltb, le→leb}
 use lib.Ieee.{binary32, inFloat}
 use lib.IntN.{ℤ, pos, negsuc, _-ℤ_}
-use lib.Pow.{pow-pos, pow-mono}
+use lib.Pow.{pow-pos, pow-mono, pow-lt}
 use lib.Signed.{mag}
 use mir.Syntax.{Width, w32}
 use mir.Val.{toZ, ofZ, hbits}
-use mir.ValLaws.{toZ-ofZ}
+use mir.ValLaws.{toZ-pos, toZ-ofZ}
 use Rattle.tables.specs.Tables.{mantBits}
-use Rattle.tables.proofs.Rules.{mant-bits}
 use Rattle.tables.proofs.Tests.{lt-or-le}
 use Rattle.levels.specs.declared.Code.{Code}
 use Rattle.levels.specs.Codes.{signed, smallBits, largeBits, Accepted}
+
+-- what holds of both holds of either
+pub by-test : {A : Type 0} (P : A → Type 0) (t : Bool) (a b : A) → P a → P b → P (cond t a b)
+by-test P true a b p q = p
+by-test P false a b p q = q
 
 pub back : (w : Width) (z : ℤ) {y : ℤ} → mag z < 2 ^ hbits w → z ≡ y → toZ w (ofZ w z) ≡ y
 back w z h e = toZ-ofZ w z (record { sfits = h }) ∙ e
@@ -29,10 +33,17 @@ unfolding inFloat
 in-float (pos n) h = le→leb n (2 ^ 24) (omega arith)
 in-float (negsuc n) h = lt→ltb n (2 ^ 24) h
 
+-- a power of two, as a number with a sign
+pub power-fits : (r n : ℕ) → n < 31 → r ≡ 2 ^ n → r < 2 ^ 31
+power-fits r n h e = rw e (pow-lt {j = 31} h)
+
+pub cast-power : (r n : ℕ) → n < 31 → r ≡ 2 ^ n → toZ w32 r ≡ pos (2 ^ n)
+cast-power r n h e = toZ-pos w32 r (power-fits r n h e) ∙ ap pos e
+
 -- ---- two's complement
 
-pub two-to-cap : (w : ℕ) → w ≤ 16 → 2 ^ w ≤ 65536
-two-to-cap w h = pow-mono {i = w} {j = 16} h
+pub pow2-cap : (w : ℕ) → w ≤ 16 → 2 ^ w ≤ 65536
+pow2-cap w h = pow-mono {i = w} {j = 16} h
 
 pub halves : (w : ℕ) → 1 ≤ w → 2 ^ w ≡ 2 ^ (w - 1) * 2
 halves zero h = absurd (not-suc-le-zero h)
@@ -51,11 +62,8 @@ signed-less w u h l =
       | inr b ↦ rw (signed-high w u b) (let e = halves w h in let p = pow-pos (w - 1) in omega arith)
     ]
 
-pub signed-bound : (w u : ℕ) → 1 ≤ w → u < 2 ^ w → mag (signed w u) ≤ 2 ^ (w - 1)
-signed-bound w u h l = le-of-lt (signed-less w u h l)
-
 pub signed-small : (w u : ℕ) → (1 ≤ w) × (w ≤ 16) × (u < 2 ^ w) → mag (signed w u) < 65536
-signed-small w u h = lt-of-lt-of-le (signed-less w u (h .0) (h .2)) (two-to-cap (w - 1) (omega arith))
+signed-small w u h = lt-of-lt-of-le (signed-less w u (h .0) (h .2)) (pow2-cap (w - 1) (omega arith))
 
 pub passed-small : (w u : ℕ) (k : ℤ) → (1 ≤ w) × (w ≤ 16) × (u < 2 ^ w) → mag k < 2 ^ 31 → k ≡ signed w u → mag (toZ w32 (ofZ w32 k)) < 2 ^ 24
 passed-small w u k h f e = let b = signed-small w u h in rw (back w32 k f e) (omega arith)
@@ -66,23 +74,11 @@ minus u (suc p) h = rw (lt-ltb u (suc p) h)
 
 -- ---- the bits of a code
 
-width-by : (t : Bool) (a b : ℕ) → (1 ≤ a) × (a ≤ 16) → (1 ≤ b) × (b ≤ 16) → (1 ≤ cond t a b) × (cond t a b ≤ 16)
-width-by true a b p q = p
-width-by false a b p q = q
-
 pub small-width : (m g : ℕ) → 3 ≤ m → m ≤ 16 → (1 ≤ smallBits m g) × (smallBits m g ≤ 16)
-small-width m g l u = width-by (eqb g 2) (m - 1) (m - 2) (omega arith) (omega arith)
+small-width m g l u = by-test (λ (w : ℕ). (1 ≤ w) × (w ≤ 16)) (eqb g 2) (m - 1) (m - 2) (omega arith) (omega arith)
 
 pub large-width : (m g : ℕ) → 3 ≤ m → m ≤ 16 → (1 ≤ largeBits m g) × (largeBits m g ≤ 16)
-large-width m g l u = width-by (eqb g 2) (m - 1) m (omega arith) (omega arith)
-
--- what is asked of a code u in w bits, for a kind of code whose width is f
-pub asked : (f : ℕ → ℕ → ℕ) → ((m g : ℕ) → 3 ≤ m → m ≤ 16 → (1 ≤ f m g) × (f m g ≤ 16))
-    → (h g w u : ℕ) → (8 ≤ h) × (h ≤ 19) → w ≡ f (mantBits h) g → u < 2 ^ f (mantBits h) g → (1 ≤ w) × (w ≤ 16) × (u < 2 ^ w)
-asked f wide h g w u r e l =
-    let b = mant-bits h (r .0) (r .1) in
-    let a = wide (mantBits h) g (b .0) (b .1) in
-    rw e (a .0, a .1, l)
+large-width m g l u = by-test (λ (w : ℕ). (1 ≤ w) × (w ≤ 16)) (eqb g 2) (m - 1) m (omega arith) (omega arith)
 
 -- what is accepted of a small code holds of the one that a match has taken out
 pub small-fits : (h g s : ℕ) (code : Code) → Accepted h g code → code ≡ Code.Small s → s < 2 ^ smallBits (mantBits h) g

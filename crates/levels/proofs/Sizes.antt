@@ -1,4 +1,4 @@
--- The steps to an exact value stay within an i32: one law of the numbers, and one test of the twelve rows. Assumes nothing.
+-- The steps to an exact value stay within an i32: one law, and one test of the twelve rows. Assumes nothing.
 use Prim.Native.Nat.{ℕ, zero, suc, _+_, _-_, _*_, _^_, _≤_, _<_}
 use mathlib.Core.Path.{_≡_, refl, sym, _∙_}
 use mathlib.Core.Bool.{Bool, true, false, cond, _&&_}
@@ -17,7 +17,7 @@ use Rattle.tables.proofs.Tests.{and-parts, every-at}
 use Rattle.tables.proofs.Rules.{mant-bits}
 use Rattle.levels.specs.Codes.{signed, smallBits, largeBits}
 use Rattle.levels.specs.Exact.{slope, offsetBySign, isNegative}
-use Rattle.levels.proofs.Signed.{back, signed-less, small-width, large-width}
+use Rattle.levels.proofs.Signed.{by-test, back, signed-less, small-width, large-width}
 use Rattle.levels.proofs.Rows.{at-gain}
 
 -- ---- sizes of signed numbers
@@ -114,14 +114,11 @@ module _ (h g : ℕ) (low : 8 ≤ h) (high : h ≤ 19) where
   pub unit-size : natAbs (pos 32768 +ℤ slope h g) * 2 ^ (cond (eqb g 2) 17 16 - mantBits h) < 2 ^ 31
   unit-size =
       let r = row-size h g low high false in
+      let b = mant-bits h low high in
       let z = natAbs (pos 32768 +ℤ slope h g) in
-      let p : 2 ^ (cond (eqb g 2) 17 16 - mantBits h) ≤ 2 ^ 14 = pow-mono (go (eqb g 2)) in
+      let p : 2 ^ (cond (eqb g 2) 17 16 - mantBits h) ≤ 2 ^ 14 = pow-mono (by-test (λ (n : ℕ). n - mantBits h ≤ 14) (eqb g 2) 17 16 (omega arith) (omega arith)) in
       let m : z * 2 ^ (cond (eqb g 2) 17 16 - mantBits h) ≤ z * 2 ^ 14 = mul-le-mul-left z p in
       omega arith
-    where
-      go : (t : Bool) → cond t 17 16 - mantBits h ≤ 14
-      go true = let m = mant-bits h low high in omega arith
-      go false = let m = mant-bits h low high in omega arith
 
   pub offset-size : (below : Bool) → natAbs (offsetBySign h g below) * 2 ^ 15 < 2 ^ 31
   offset-size below = let r = row-size h g low high below in omega arith
@@ -131,14 +128,11 @@ module _ (h g : ℕ) (low : 8 ≤ h) (high : h ≤ 19) where
   small-size u f =
       let m = mant-bits h low high in
       let b : mag (signed (smallBits (mantBits h) g) u) < 2 ^ (mantBits h - 1) =
-      lt-of-lt-of-le (signed-less (smallBits (mantBits h) g) u (small-width (mantBits h) g (m .0) (m .1) .0) f) (pow-mono (go (eqb g 2))) in
+      lt-of-lt-of-le (signed-less (smallBits (mantBits h) g) u (small-width (mantBits h) g (m .0) (m .1) .0) f)
+      (pow-mono (by-test (λ (n : ℕ). n - 1 ≤ mantBits h - 1) (eqb g 2) (mantBits h - 1) (mantBits h - 2) (omega arith) (omega arith))) in
       let t : natAbs (signed (smallBits (mantBits h) g) u) * 2 ^ (31 - mantBits h) ≤ 2 ^ 30 =
       times-power (signed (smallBits (mantBits h) g) u) (mantBits h - 1) (31 - mantBits h) 30 b (omega arith) in
       omega arith
-    where
-      go : (t : Bool) → cond t (mantBits h - 1) (mantBits h - 2) - 1 ≤ mantBits h - 1
-      go true = omega arith
-      go false = omega arith
 
   pub large-steps : (u : ℕ) → u < 2 ^ largeBits (mantBits h) g
       → Steps (signed (largeBits (mantBits h) g) u) (pos 32768 +ℤ slope h g) (2 ^ (cond (eqb g 2) 17 16 - mantBits h)) (offsetBySign h g (isNegative (signed (largeBits (mantBits h) g) u)))

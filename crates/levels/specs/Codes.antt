@@ -18,12 +18,22 @@ signed w u = cond (ltb u (2 ^ (w - 1))) (pos u) (negsuc (2 ^ w - suc u))
 abbrev pub tag : ℕ → ℕ
 tag w = 2 ^ (w - 1)
 
--- the bits of s and of l, for m mantissa bits: Gk 2 has m-1 and m-1, Gk 4 has m-2 and m; the codes of Gk 1 are all large and have m
+-- the bits of s and of l, for m mantissa bits (Table E3.5): Gk 2 has m-1 and m-1, Gk 4 has m-2 and m;
+-- the codes of Gk 1 are all large and have m
 abbrev pub smallBits : ℕ → ℕ → ℕ
 smallBits m g = cond (eqb g 2) (m - 1) (m - 2)
 
 abbrev pub largeBits : ℕ → ℕ → ℕ
 largeBits m g = cond (eqb g 2) (m - 1) m
+
+-- 1 for a large code, 0 for a small one; and its bits
+abbrev pub largeOf : Code → ℕ
+largeOf (Code.Small s) = 0
+largeOf (Code.Large l) = 1
+
+abbrev pub codeOf : Code → ℕ
+codeOf (Code.Small s) = s
+codeOf (Code.Large l) = l
 
 -- ---- the layout of a code
 abbrev pub toCode : ℕ → ℕ × ℕ → Code

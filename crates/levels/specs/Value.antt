@@ -1,4 +1,5 @@
--- The f32 value of a code, operation by operation as the Rust has it, each rounded once (lib.Ieee, binary32).
+-- The f32 value of a code, operation by operation as in the Rust, each rounded once (lib.Ieee, binary32).
+-- ATSC A/52 Annex E, 3.4.4.2, Table E3.6.
 use Prim.Native.Nat.{ℕ, _-_, _^_}
 use mathlib.Core.Bool.{cond, not}
 use lib.Dec.{eqb}
@@ -45,7 +46,8 @@ scaled n k = mul binary32 (ofInt binary32 k) (div binary32 f1 (power n))
 unfoldable pub divided : ℕ → ℤ → Float
 divided n k = div binary32 (ofInt binary32 k) (power n)
 
--- ---- the value that the reader gives to a code: s over 2 ^ (m-1), or gaq_remap of l over 2 ^ (m-2) at Gk 2, over 2 ^ (m-1) else
+-- ---- the value that the reader gives to a code
+-- s over 2 ^ (m-1), or gaq_remap of l over 2 ^ (m-2) at Gk 2, over 2 ^ (m-1) else
 unfoldable pub smallValue : ℕ → ℤ → Float
 smallValue h s = scaled (mantBits h - 1) s
 

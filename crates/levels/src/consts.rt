@@ -1,7 +1,7 @@
-// What the codes of a hebap and a gain have in common: a row for each of hebap 8 to 19 at Gk 1, 2 and 4. Made by tools/tables.py.
+// What the codes of a hebap and a gain have in common, a row each: hebap 8 to 19 at Gk 1, 2 and 4. By tools/tables.py.
 
-// a and b (for x >= 0 and for x < 0) as fractions, 1 / 2^(m-1) and 1 / 2^(bits of a large code - 1), all by bit patterns; the bits of small and
-// of large codes; a step of each and both b, the second by its size, in units of 2^-30.
+// By bit patterns: a and b (for x >= 0 and for x < 0) as fractions, 1 / 2^(m-1), 1 / 2^(bits of a large code - 1);
+// then the bits of small and of large codes; a step of each and both b, the second by its size, in units of 2^-30.
 pub const SCALES: [u32; 396] = [
     0x3e124800,
     0x00000000,

@@ -12,7 +12,7 @@ ghost use Rattle.levels.specs.Component.{tooLarge, someTooLarge};
 ghost use Rattle.levels.specs.Codes.{signed, smallBits, largeBits, codeBits, Accepted};
 ghost use Rattle.levels.specs.Exact.{slope, offsetBySign, exactOf};
 ghost use Rattle.levels.specs.Value.{q15 as q15Of, power, gaqRemap, levelOf, divided, valueIn, valueOf};
-ghost use Rattle.levels.specs.Work.{remapOf, remapBy, scaleOf, rowOf, ScalesLoaded};
+ghost use Rattle.levels.specs.Work.{remapOf, remapBy, scaleOf, IsScale, rowOf, ScalesLoaded};
 
 mod consts;
 
@@ -26,13 +26,6 @@ pub enum Code {
 pub enum Level {
     Small(f32),
     Large(f32),
-}
-
-pub fn two_to(n: u32) -> u32
-    requires { ⌜ n < 32 ⌝ }
-    ensures { λ r. ⌜ r ≡ 2 ^ n ⌝ }
-{
-    1 << n
 }
 
 pub fn mant(hebap: u8) -> u32
@@ -77,24 +70,27 @@ fn signed_code(u: u32, w: u32) -> i32
     requires { ⌜ (1 ≤ w) × (w ≤ 16) × (u < 2 ^ w) ⌝ }
     ensures { λ r. ⌜ r ≡ signed w u ⌝ }
 {
-    if u < two_to(w - 1) {
+    if u < bits::pow2(w - 1) {
         u as i32
     } else {
-        (u as i32) - (two_to(w) as i32)
+        (u as i32) - (bits::pow2(w) as i32)
     }
 }
 
-// Whether a component is accepted: no NaN, and at most 1024 in size.
+// The greatest size of a component.
+pub const LARGEST_SIZE: f32 = 1024.0;
+
+// Whether a component is accepted: no NaN, and not too large.
 pub fn in_range(x: f32) -> bool
     ensures { λ r. ⌜ r ≡ not (tooLarge x) ⌝ }
 {
-    if x >= -1024.0 {
-        return x <= 1024.0;
+    if x >= -LARGEST_SIZE {
+        return x <= LARGEST_SIZE;
     }
     false
 }
 
-// Whether some component is not accepted. All are looked at, which the machine does for several together.
+// Whether some component is not accepted. No early exit, so that the loop is vectorised.
 pub fn any_too_large(x: &[f32]) -> bool
     ensures { λ r. ⌜ r ≡ someTooLarge (now (x .entry)) ⌝ }
 {
@@ -113,7 +109,7 @@ pub fn scale(n: u32) -> f32
     requires { ⌜ n ≤ 16 ⌝ }
     ensures { λ r. ⌜ r ≡ power n ⌝ }
 {
-    two_to(n) as f32
+    bits::pow2(n) as f32
 }
 
 pub fn divided_code(k: i32, n: u32) -> f32
@@ -142,7 +138,7 @@ fn slope_at(hebap: u8, gk: u8) -> i16
     tables::gaq_remap_at(hebap, 4)
 }
 
-// b: the first is for numbers that are not below 0, the second for those below.
+// b, by the sign of the number.
 fn offset_by_sign(hebap: u8, gk: u8, below: bool) -> i16
     ensures { λ r. ⌜ r ≡ offsetBySign hebap gk below ⌝ }
 {
@@ -161,14 +157,14 @@ fn offset_by_sign(hebap: u8, gk: u8, below: bool) -> i16
     tables::gaq_remap_at(hebap, 5)
 }
 
-// a, and b for numbers that are not below 0 and for those below, of a hebap and a gain, as fractions.
+// a, and b by the sign of the number, of a hebap and a gain, as fractions.
 pub struct Remap {
     pub a: f32,
     pub up: f32,
     pub below: f32,
 }
 
-// Worked out once where many numbers are remapped: each number of the table is a walk through it.
+// Computed once where many numbers are remapped: a look into the table walks through it.
 pub fn remap_of(hebap: u8, gk: u8) -> Remap
     ensures { λ r. ⌜ r ≡ remapOf hebap gk ⌝ }
 {
@@ -186,7 +182,8 @@ pub fn remap_by(r: Remap, x: f32) -> f32
     x + r.a * x + b
 }
 
-// The remap of Table E3.6: y = x + a x + b, each operation rounded once. A gain other than 1 and 2 has the column of Gk 4, as in the Rust.
+// The remap of Table E3.6: y = x + a x + b, each operation rounded once. As in the Rust, a gain other than 1 and 2
+// has the column of Gk 4.
 pub fn gaq_remap(hebap: u8, gk: u8, x: f32) -> f32
     ensures { λ r. ⌜ r ≡ gaqRemap hebap gk x ⌝ }
 {
@@ -212,13 +209,6 @@ fn times(x: i32, y: i32) -> i32
     x * y
 }
 
-fn power_of_two(n: u32) -> i32
-    requires { ⌜ n < 31 ⌝ }
-    ensures { λ r. ⌜ r ≡ pos (2 ^ n) ⌝ }
-{
-    two_to(n) as i32
-}
-
 // 1 + a, in units of 2^-15
 fn one_plus_slope(hebap: u8, gk: u8) -> i32
     requires { ⌜ (8 ≤ hebap) × (hebap ≤ 19) ⌝ }
@@ -232,18 +222,17 @@ fn power_at(hebap: u8, gk: u8) -> i32
     requires { ⌜ (8 ≤ hebap) × (hebap ≤ 19) ⌝ }
     ensures { λ r. ⌜ r ≡ pos (2 ^ (cond (eqb gk 2) 17 16 - mantBits hebap)) ⌝ }
 {
-    let m = mant(hebap);
-    if gk == 2 {
-        return power_of_two(17 - m);
-    }
-    power_of_two(16 - m)
+    let most: u32 = if gk == 2 { 17 } else { 16 };
+    bits::pow2(most - mant(hebap)) as i32
 }
 
 // ---- many codes of one hebap and gain
 
-// What they have in common: the remap; the bits of small and of large codes; the fractions 1 / 2^(m-1) and, for large codes, 1 / 2^(bits - 1);
-// the exact value of a step of each, and of b for numbers that are not below 0 and for those below.
+// What they have in common: the remap; the bits of small and of large codes; the fractions 1 / 2^(m-1) and, for
+// large codes, 1 / 2^(bits - 1); the exact value of a step of each, and of b by the sign of the number.
 pub struct CodeScale {
+    pub hebap: u8,
+    pub gk: u8,
     pub remap: Remap,
     pub small: u32,
     pub large: u32,
@@ -262,20 +251,22 @@ pub fn scale_of(hebap: u8, gk: u8) -> CodeScale
     let m = mant(hebap);
     let large = large_bits(m, gk);
     CodeScale {
+        hebap,
+        gk,
         remap: remap_of(hebap, gk),
         small: small_bits(m, gk),
         large,
         small_part: 1.0 / scale(m - 1),
         large_part: 1.0 / scale(large - 1),
-        small_unit: power_of_two(31 - m),
+        small_unit: bits::pow2(31 - m) as i32,
         large_unit: times(one_plus_slope(hebap, gk), power_at(hebap, gk)),
         up: times(offset_by_sign(hebap, gk, false) as i32, 32768),
         below: times(offset_by_sign(hebap, gk, true) as i32, 32768),
     }
 }
 
-// The scales of all hebaps and gains, a row each: where many bins are read, they are made once and lent, since working one out takes longer than
-// reading a bin.
+// The scales of all hebaps and gains, a row each. Where many bins are read it is built once and lent: computing a
+// scale takes longer than reading a bin.
 pub fn scales() -> [u32; 396]
     ensures { λ r. ⌜ ScalesLoaded r ⌝ }
 {
@@ -329,6 +320,8 @@ pub fn scale_at(t: &[u32], hebap: u8, gk: u8) -> CodeScale
 {
     let i = row_of(hebap, gk);
     CodeScale {
+        hebap,
+        gk,
         remap: Remap {
             a: fraction(t, i, 0),
             up: fraction(t, i, 1),
@@ -345,12 +338,11 @@ pub fn scale_at(t: &[u32], hebap: u8, gk: u8) -> CodeScale
     }
 }
 
-// The kind and the f32 value of a code. hebap and gk say whose scale s is.
-pub fn level_of(s: CodeScale, hebap: u8, gk: u8, code: Code) -> Level
-    requires { ⌜ (8 ≤ hebap) × (hebap ≤ 19) ⌝ }
-    requires { ⌜ s ≡ scaleOf hebap gk ⌝ }
-    requires { ⌜ Accepted hebap gk code ⌝ }
-    ensures { λ r. ⌜ r ≡ levelOf hebap gk code ⌝ }
+// The kind and the f32 value of a code.
+pub fn level_of(s: CodeScale, code: Code) -> Level
+    requires { ⌜ IsScale s ⌝ }
+    requires { ⌜ Accepted (s .hebap) (s .gk) code ⌝ }
+    ensures { λ r. ⌜ r ≡ levelOf (s .hebap) (s .gk) code ⌝ }
 {
     match code {
         Code::Small(u) => Level::Small(signed_code(u, s.small) as f32 * s.small_part),
@@ -361,11 +353,10 @@ pub fn level_of(s: CodeScale, hebap: u8, gk: u8, code: Code) -> Level
 }
 
 // The exact value of a code.
-pub fn exact_value(s: CodeScale, hebap: u8, gk: u8, code: Code) -> i32
-    requires { ⌜ (8 ≤ hebap) × (hebap ≤ 19) ⌝ }
-    requires { ⌜ s ≡ scaleOf hebap gk ⌝ }
-    requires { ⌜ Accepted hebap gk code ⌝ }
-    ensures { λ r. ⌜ r ≡ exactOf hebap gk code ⌝ }
+pub fn exact_value(s: CodeScale, code: Code) -> i32
+    requires { ⌜ IsScale s ⌝ }
+    requires { ⌜ Accepted (s .hebap) (s .gk) code ⌝ }
+    ensures { λ r. ⌜ r ≡ exactOf (s .hebap) (s .gk) code ⌝ }
 {
     match code {
         Code::Small(u) => times(signed_code(u, s.small), s.small_unit),
@@ -377,23 +368,23 @@ pub fn exact_value(s: CodeScale, hebap: u8, gk: u8, code: Code) -> i32
     }
 }
 
-// ---- codes of Gk 1, which are all large and have b 0: nothing to choose by their sign
+// ---- codes of Gk 1: all are large and b is 0, so no branch goes by their sign
 
-pub fn fixed_value(s: CodeScale, hebap: u8, u: u32) -> f32
-    requires { ⌜ (8 ≤ hebap) × (hebap ≤ 19) ⌝ }
-    requires { ⌜ s ≡ scaleOf hebap 1 ⌝ }
-    requires { ⌜ u < 2 ^ mantBits hebap ⌝ }
-    ensures { λ r. ⌜ r ≡ valueOf hebap 1 (Code.Large u) ⌝ }
+pub fn fixed_value(s: CodeScale, u: u32) -> f32
+    requires { ⌜ IsScale s ⌝ }
+    requires { ⌜ s .gk ≡ 1 ⌝ }
+    requires { ⌜ Accepted (s .hebap) (s .gk) (Code.Large u) ⌝ }
+    ensures { λ r. ⌜ r ≡ valueOf (s .hebap) (s .gk) (Code.Large u) ⌝ }
 {
     let x = signed_code(u, s.large) as f32 * s.large_part;
     x + s.remap.a * x + s.remap.up
 }
 
-pub fn fixed_exact(s: CodeScale, hebap: u8, u: u32) -> i32
-    requires { ⌜ (8 ≤ hebap) × (hebap ≤ 19) ⌝ }
-    requires { ⌜ s ≡ scaleOf hebap 1 ⌝ }
-    requires { ⌜ u < 2 ^ mantBits hebap ⌝ }
-    ensures { λ r. ⌜ r ≡ exactOf hebap 1 (Code.Large u) ⌝ }
+pub fn fixed_exact(s: CodeScale, u: u32) -> i32
+    requires { ⌜ IsScale s ⌝ }
+    requires { ⌜ s .gk ≡ 1 ⌝ }
+    requires { ⌜ Accepted (s .hebap) (s .gk) (Code.Large u) ⌝ }
+    ensures { λ r. ⌜ r ≡ exactOf (s .hebap) (s .gk) (Code.Large u) ⌝ }
 {
     times(signed_code(u, s.large), s.large_unit)
 }

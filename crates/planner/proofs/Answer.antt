@@ -1,110 +1,113 @@
 -- What the planner answers, case by case. Assumes nothing.
-use mathlib.Core.Path.{_≡_, refl, sym, ap, subst, _∙_}
-use mathlib.Core.Bool.{Bool, true, false, _||_, cond}
-use mathlib.Core.List.{List, [], _∷_, _++_}
-use Prim.Native.Nat.{ℕ, zero, suc, _+_, _*_, _≤_, _<_}
+use mathlib.Core.Path.{_≡_, refl, sym, ap, _∙_}
+use mathlib.Core.Bool.{Bool, true, false, not, _&&_, cond}
+use mathlib.Core.List.{List, _++_}
+use Prim.Native.Nat.{ℕ, zero, suc, _+_, _-_, _*_, _/_, _≤_, _<_}
 use native.Mathlib.Omega.{arith}
-use borrow.Author.Tests.{lt-ltb, le-ltb, ltb-false, ne-eqb}
-use lib.Dec.{T, eqb, ltb}
-use lib.ListN.{length, take, drop, length-append}
+use borrow.Author.Tests.{lt-ltb, le-ltb, ltb-true, ltb-false, ne-eqb, eqb-true, eqb-false}
+use lib.Dec.{eqb, ltb}
+use lib.ListN.{length, getD, take, drop, length-append}
+use lib.Seq.{take-take}
 use lib.Ieee.{Float}
-use Rattle.gains.specs.Gains.{member}
-use Rattle.planner.specs.Bins.{someOver}
-use Rattle.planner.specs.Choice.{planMode, planGains, planPayload, planBits, choiceBits, Choice, gainsOver}
-use Rattle.planner.specs.Work.{tallyOf, payloadIn, modeIn, countIn, gainsKept, keptIn, Within}
-use Rattle.planner.specs.Planning.{noGains, unknownAt, tooLargeAt, refusalOf, planOf, causeOf, planned, totalOf}
+use Rattle.levels.specs.Component.{someTooLarge}
+use Rattle.channel.specs.Bins.{someOver}
+use Rattle.channel.specs.Row.{noGains, sixOf, rowCause}
+use Rattle.channel.proofs.Over.{none-of}
+use Rattle.channel.proofs.Rows.{row-ok, cause-4-or-0, count-most}
+use Rattle.planner.specs.Choice.{leastUpTo, leastOf, planMode, planGains, planPayload, choiceBits, Choice, gainsOver}
+use Rattle.planner.specs.Work.{modeAt, TalliesOf, payloadIn, Within}
+use Rattle.planner.specs.Planning.{tooLargeAt, refusalOf, planOf, causeOf, planned, totalOf, gainsOf}
 use Rattle.planner.specs.Fit.{planFits}
 use Rattle.planner.specs.declared.Plan.{Plan}
 use Rattle.planner.specs.declared.Planned.{Planned}
-use Rattle.planner.specs.declared.Tally.{Tally}
-use Rattle.planner.proofs.Sweep.{mode-is, plan-payload}
-use Rattle.planner.proofs.Kept.{count-is, kept-is}
-use Rattle.planner.proofs.Optimal.{cheapest-in, plan-least, plan-lowest}
+use Rattle.planner.proofs.Optimal.{first-least, least-same, gains-length, plan-choice, plan-least, plan-lowest}
+use Rattle.planner.proofs.Tallies.{payload-is}
 use Rattle.planner.proofs.Chosen.{fits-choice, plan-fits}
 
-module _ (row : List ℕ) (x : List Float) (start end : ℕ) (t : Tally) (m : ℕ) (et : t ≡ tallyOf row x start end) (em : m ≡ modeIn t) where
-  -- the gains kept for the mode, in places that were 0
-  gains-are : (g1 g2 g3 z1 z2 z3 : List ℕ) → z1 ≡ noGains → z2 ≡ noGains → z3 ≡ noGains → g1 ≡ gainsKept 1 row x start end z1 → g2 ≡ gainsKept 2 row x start end z2 → g3 ≡ gainsKept 3 row x start end z3
-      → (keptIn m g1 g2 g3 ≡ gainsKept m row x start end noGains) × (countIn t m ≡ length (gainsOver m row x start end))
-  unfolding modeIn
-  gains-are g1 g2 g3 z1 z2 z3 e1 e2 e3 k1 k2 k3 =
-      let q = ap (λ (k : ℕ). member k (0 ∷ 1 ∷ 2 ∷ 3 ∷ [])) em ∙ cheapest-in (payloadIn t) 0 (1 ∷ 2 ∷ 3 ∷ []) in (
-        kept-is row x start end m g1 g2 g3 (k1 ∙ ap (gainsKept 1 row x start end) e1) (k2 ∙ ap (gainsKept 2 row x start end) e2) (k3 ∙ ap (gainsKept 3 row x start end) e3) q,
-        count-is row x start end t m et q,
-      )
+-- ---- the plan of what was kept of the modes
+module _ (row : List ℕ) (x : List Float) (start end plain : ℕ) (bits used kept : List ℕ) (few : end ≤ 256) (p : TalliesOf row x start end plain (modeAt bits used kept))
+    (m : ℕ) (em : m ≡ leastUpTo (payloadIn plain bits used) 3) where
+  pub mode-is : m ≡ planMode row x start end
+  unfolding planMode
+  mode-is = em ∙ least-same (payloadIn plain bits used) (leastOf row x start end) 3 (payload-is row x start end plain bits used kept p)
 
-  pub plan-is : (p n : ℕ) (g g1 g2 g3 z1 z2 z3 : List ℕ) → p ≡ payloadIn t m → n ≡ countIn t m → g ≡ keptIn m g1 g2 g3 → z1 ≡ noGains → z2 ≡ noGains → z3 ≡ noGains
-      → g1 ≡ gainsKept 1 row x start end z1 → g2 ≡ gainsKept 2 row x start end z2 → g3 ≡ gainsKept 3 row x start end z3
-      → _≡_ {A = Plan} (record { mode = m; gains = g; count = n; payload = p }) (planOf row x start end)
-  unfolding planOf planGains gainsKept
-  plan-is p n g g1 g2 g3 z1 z2 z3 ep en eg e1 e2 e3 k1 k2 k3 =
-      let m-is : m ≡ planMode row x start end = mode-is row x start end t m et em in
-      let p-is : p ≡ planPayload row x start end = plan-payload row x start end t m p et m-is ep in
-      let w = gains-are g1 g2 g3 z1 z2 z3 e1 e2 e3 k1 k2 k3 in
-      rw (eg ∙ w .0, en ∙ w .1, p-is, m-is)
+  pub mode-most : m ≤ 3
+  mode-most = let i = first-least (payloadIn plain bits used) 3 .inside in omega arith
+
+  pub count-few : getD used m 0 ≤ 256
+  unfolding modeAt
+  count-few = let c = p m mode-most .count-is in let l = count-most m row start end in omega arith
+
+  pub plan-is : (n b : ℕ) (g : List ℕ) → n ≡ getD used m 0 → b ≡ payloadIn plain bits used m → g ≡ take n (drop (256 * m) kept) ++ drop n noGains
+      → _≡_ {A = Plan} (record { mode = m; gains = g; count = n; payload = b }) (planOf row x start end)
+  unfolding planOf planGains planPayload modeAt
+  plan-is n b g en eb eg =
+      let t = p m mode-most in
+      let f = count-few in
+      let l : n ≡ length (gainsOver m row x start end) = en ∙ t .count-is ∙ sym (gains-length m row x start end) in
+      let G : take n (drop (256 * m) kept) ≡ gainsOver m row x start end = ap (λ (k : ℕ). take k (drop (256 * m) kept)) en ∙ sym (take-take (getD used m 0) 256 (drop (256 * m) kept) f) ∙ t .gains-are in
+      let e : g ≡ gainsOver m row x start end ++ drop (length (gainsOver m row x start end)) noGains = eg ∙ ap (λ (z : List ℕ). z ++ drop n noGains) G ∙ ap (λ (k : ℕ). gainsOver m row x start end ++ drop k noGains) l in
+      let q : b ≡ leastOf row x start end m = eb ∙ payload-is row x start end plain bits used kept p m mode-most in
+      rw (e, l, q, mode-is)
+
+-- ---- cause 5 at a bin
+pub too-large-none : (row : List ℕ) (x : List Float) (k : ℕ) → getD row k 0 ≡ 0 → false ≡ tooLargeAt row x k
+unfolding tooLargeAt
+too-large-none row x k e = sym (ap (λ (z : ℕ). not (eqb z 0) && someTooLarge (sixOf x k)) e)
+
+pub too-large-some : (row : List ℕ) (x : List Float) (k : ℕ) (r : Bool) → (getD row k 0 ≡ 0 → ⊥) → r ≡ someTooLarge (take (6 * k + 6 - 6 * k) (drop (6 * k) x)) → r ≡ tooLargeAt row x k
+unfolding tooLargeAt
+too-large-some row x k r n e =
+    let six : 6 * k + 6 - 6 * k ≡ 6 = omega arith in
+    e ∙ ap (λ (w : ℕ). someTooLarge (take w (drop (6 * k) x))) six ∙ sym (ap (λ (t : Bool). not t && someTooLarge (sixOf x k)) (ne-eqb (getD row k 0) 0 n))
 
 -- ---- the cause
+-- vectors too short, without a product that could be too large
+short-is : (n e : ℕ) → ltb (n / 6) e ≡ ltb n (6 * e)
+short-is n e = go (ltb n (6 * e)) refl
+  where
+    go : (t : Bool) → ltb n (6 * e) ≡ t → ltb (n / 6) e ≡ t
+    go true q = let l = ltb-true n (6 * e) q in lt-ltb (n / 6) e (omega arith)
+    go false q = let l = ltb-false n (6 * e) q in le-ltb (n / 6) e (omega arith)
+
 module _ (row : List ℕ) (start end : ℕ) (x : List Float) where
-  pub cause-1 : end < start → 1 ≡ causeOf row start end x
-  unfolding causeOf
-  cause-1 h = sym (rw (lt-ltb end start h))
+  -- what cause calls asks by the quotient
+  module _ (k : ℕ) (ek : k ≡ rowCause row start end (ltb (length x / 6) end)) where
+    by-product : k ≡ rowCause row start end (ltb (length x) (6 * end))
+    by-product = ek ∙ ap (rowCause row start end) (short-is (length x) end)
 
-  pub cause-2 : start ≤ end → 256 < end → 2 ≡ causeOf row start end x
-  unfolding causeOf
-  cause-2 a h = sym (rw (le-ltb end start a, lt-ltb 256 end h))
-
-  pub cause-3-row : start ≤ end → end ≤ 256 → length row < end → 3 ≡ causeOf row start end x
-  unfolding causeOf
-  cause-3-row a b h = sym (rw (le-ltb end start a, le-ltb 256 end b, lt-ltb (length row) end h))
-
-  pub cause-3-vectors : start ≤ end → end ≤ 256 → end ≤ length row → length x < 6 * end → 3 ≡ causeOf row start end x
-  unfolding causeOf
-  cause-3-vectors a b c h = sym (rw (le-ltb end start a, le-ltb 256 end b, le-ltb (length row) end c, lt-ltb (length x) (6 * end) h))
-
-  module _ (a : start ≤ end) (b : end ≤ 256) (c : end ≤ length row) (d : 6 * end ≤ length x) where
-    pub cause-4 : someOver (unknownAt row) start end ≡ true → 4 ≡ causeOf row start end x
+    pub cause-row : (k ≡ 0 → ⊥) → k ≡ causeOf row start end x
     unfolding causeOf
-    cause-4 h = sym (rw (le-ltb end start a, le-ltb 256 end b, le-ltb (length row) end c, le-ltb (length x) (6 * end) d, h))
+    cause-row n = rw (sym by-product, ne-eqb k 0 n)
 
-    pub cause-5 : someOver (unknownAt row) start end ≡ false → someOver (tooLargeAt row x) start end ≡ true → 5 ≡ causeOf row start end x
+    pub cause-within : k ≡ 0 → Within row start end x
+    cause-within z = let r = row-ok row start end (ltb (length x) (6 * end)) (sym by-product ∙ z) in record { row-ok = r .0; vectors = ltb-false (length x) (6 * end) (r .1) }
+
+    pub cause-rest : k ≡ 0 → (t : Bool) → someOver (tooLargeAt row x) start end ≡ t → cond t 5 0 ≡ causeOf row start end x
     unfolding causeOf
-    cause-5 h k = sym (rw (le-ltb end start a, le-ltb 256 end b, le-ltb (length row) end c, le-ltb (length x) (6 * end) d, h, k))
+    cause-rest z t e = sym (rw (sym by-product ∙ z, e) refl)
 
-    pub cause-0 : someOver (unknownAt row) start end ≡ false → someOver (tooLargeAt row x) start end ≡ false → 0 ≡ causeOf row start end x
-    unfolding causeOf
-    cause-0 h k = sym (rw (le-ltb end start a, le-ltb 256 end b, le-ltb (length row) end c, le-ltb (length x) (6 * end) d, h, k))
+  pub cause-0 : Within row start end x → someOver (tooLargeAt row x) start end ≡ false → 0 ≡ causeOf row start end x
+  unfolding causeOf
+  cause-0 w e =
+      let r = w .row-ok in
+      let z : 0 ≡ rowCause row start end (ltb (length x) (6 * end)) =
+      cause-4-or-0 row start end (ltb (length x) (6 * end)) (r .ordered) (r .few) (r .rows) false (le-ltb (length x) (6 * end) (w .vectors)) (r .known) in
+      sym (rw (sym z, e))
 
-pub or-none : (a b : Bool) → a || b ≡ false → (a ≡ false) × (b ≡ false)
-or-none true b h = absurd (subst T h tt)
-or-none false b h = (refl, h)
+  -- Where the cause is 0, none of the five holds.
+  pub cause-none : causeOf row start end x ≡ 0 → Within row start end x × (someOver (tooLargeAt row x) start end ≡ false)
+  unfolding causeOf
+  cause-none h = go (eqb k 0) refl h
+    where
+      k : ℕ
+      k = rowCause row start end (ltb (length x) (6 * end))
 
-pub none-of : (t : Bool) (n b : ℕ) → cond t (suc n) b ≡ 0 → (t ≡ false) × (b ≡ 0)
-none-of true n b h = absurd (let z : suc n ≡ 0 = h in omega arith)
-none-of false n b h = (refl, h)
-
--- Where the cause is 0, none of the five holds.
-pub cause-none : (row : List ℕ) (start end : ℕ) (x : List Float) → causeOf row start end x ≡ 0
-    → Within row start end x × (someOver (unknownAt row) start end ≡ false) × (someOver (tooLargeAt row x) start end ≡ false)
-unfolding causeOf
-cause-none row start end x h =
-    let r5 : ℕ = cond (someOver (tooLargeAt row x) start end) 5 0 in
-    let r4 : ℕ = cond (someOver (unknownAt row) start end) 4 r5 in
-    let r3 : ℕ = cond (ltb (length row) end || ltb (length x) (6 * end)) 3 r4 in
-    let n1 = none-of (ltb end start) 0 (cond (ltb 256 end) 2 r3) h in
-    let n2 = none-of (ltb 256 end) 1 r3 (n1 .1) in
-    let n3 = none-of (ltb (length row) end || ltb (length x) (6 * end)) 2 r4 (n2 .1) in
-    let n4 = none-of (someOver (unknownAt row) start end) 3 r5 (n3 .1) in
-    let n5 = none-of (someOver (tooLargeAt row x) start end) 4 0 (n4 .1) in
-    let s = or-none (ltb (length row) end) (ltb (length x) (6 * end)) (n3 .0) in (
-      record {
-        bins = ltb-false end start (n1 .0);
-        few = ltb-false 256 end (n2 .0);
-        rows = ltb-false (length row) end (s .0);
-        vectors = ltb-false (length x) (6 * end) (s .1);
-      },
-      n4 .0,
-      n5 .0,
-    )
+      go : (t : Bool) → eqb k 0 ≡ t → cond t (cond (someOver (tooLargeAt row x) start end) 5 0) k ≡ 0 → Within row start end x × (someOver (tooLargeAt row x) start end ≡ false)
+      go true q z =
+          let r = row-ok row start end (ltb (length x) (6 * end)) (eqb-true k 0 q) in
+          (record { row-ok = r .0; vectors = ltb-false (length x) (6 * end) (r .1) }, none-of (someOver (tooLargeAt row x) start end) 4 0 z .0)
+      go false q z = absurd (eqb-false k 0 q z)
 
 -- ---- the answer
 number-is : (k : ℕ) (p : Plan) → cond (eqb k 0) (record { refusal = 0; plan = p }) (refusalOf k) .refusal ≡ k
@@ -127,23 +130,33 @@ module _ (row : List ℕ) (start end : ℕ) (x : List Float) where
   refusal-is = number-is (causeOf row start end x) (planOf row x start end)
 
   -- Where none of causes 1 to 5 holds a plan is given.
-  pub answer-given : start ≤ end → end ≤ 256 → end ≤ length row → 6 * end ≤ length x
-      → someOver (unknownAt row) start end ≡ false → someOver (tooLargeAt row x) start end ≡ false → planned row start end x .refusal ≡ 0
-  answer-given a b c d h k = refusal-is ∙ sym (cause-0 row start end x a b c d h k)
+  pub answer-given : Within row start end x → someOver (tooLargeAt row x) start end ≡ false → planned row start end x .refusal ≡ 0
+  answer-given w e = refusal-is ∙ sym (cause-0 row start end x w e)
 
   -- ---- an answer that is no refusal is the plan,
   pub answer-plan : planned row start end x .refusal ≡ 0 → planned row start end x .plan ≡ planOf row x start end
   answer-plan h = sym (ap (λ (r : Planned). r .plan) (planned-good (planOf row x start end) refl (sym refusal-is ∙ h)))
 
 module _ (row : List ℕ) (start end : ℕ) (x : List Float) (h : planned row start end x .refusal ≡ 0) where
+  -- none of the causes holds,
+  pub answer-within : Within row start end x × (someOver (tooLargeAt row x) start end ≡ false)
+  answer-within = cause-none row start end x (sym (refusal-is row start end x) ∙ h)
+
+  -- its gains are in 256 places,
+  pub answer-count : planned row start end x .plan .count ≤ 256
+  unfolding planOf
+  answer-count =
+      let o = plan-choice row x start end .one-each in
+      let m = count-most (planMode row x start end) row start end in
+      let f = answer-within .0 .row-ok .few in
+      rw (answer-plan row start end x h) (omega arith)
+
   -- it fits,
   pub answer-fits : planFits (planned row start end x .plan) row start end x ≡ true
   answer-fits = rw (answer-plan row start end x h) (plan-fits row x start end)
 
   -- it is itself a choice, with the bits that it says,
-  pub answer-choice : Choice (planned row start end x .plan .mode) (take (planned row start end x .plan .count) (planned row start end x .plan .gains)) row start end
-      × (totalOf (planned row start end x .plan)
-      ≡ choiceBits (planned row start end x .plan .mode) (take (planned row start end x .plan .count) (planned row start end x .plan .gains)) row x start end)
+  pub answer-choice : let p = planned row start end x .plan in Choice (p .mode) (gainsOf p) row start end × (totalOf p ≡ choiceBits (p .mode) (gainsOf p) row x start end)
   unfolding planOf choiceBits
   answer-choice =
       let p = planned row start end x .plan in
@@ -153,20 +166,11 @@ module _ (row : List ℕ) (start end : ℕ) (x : List Float) (h : planned row st
       let c = fits-choice p row start end x r answer-fits in
       (c .0, ap (λ (b : ℕ). 2 + b) (c .1))
 
-  payload-is : planned row start end x .plan .payload ≡ planPayload row x start end
-  unfolding planOf
-  payload-is = ap (λ (p : Plan). p .payload) (answer-plan row start end x h)
-
-  plan-mode-is : planned row start end x .plan .mode ≡ planMode row x start end
-  unfolding planOf
-  plan-mode-is = ap (λ (p : Plan). p .mode) (answer-plan row start end x h)
-
   -- no choice has fewer bits,
   pub answer-least : (mode : ℕ) (gains : List ℕ) → Choice mode gains row start end → totalOf (planned row start end x .plan) ≤ choiceBits mode gains row x start end
-  unfolding planBits
-  answer-least mode gains c = rw payload-is (plan-least mode gains row x start end c)
+  answer-least mode gains c = rw (answer-plan row start end x h) (plan-least mode gains row x start end c)
 
   -- and one of a lower mode has more.
   pub answer-lowest : (mode : ℕ) (gains : List ℕ) → Choice mode gains row start end → mode < planned row start end x .plan .mode → totalOf (planned row start end x .plan) < choiceBits mode gains row x start end
-  unfolding planBits
-  answer-lowest mode gains c l = rw payload-is (plan-lowest mode gains row x start end c (rw plan-mode-is at l))
+  unfolding planOf
+  answer-lowest mode gains c l = rw (answer-plan row start end x h) (plan-lowest mode gains row x start end c (rw (answer-plan row start end x h) at l))

@@ -10,7 +10,7 @@ use lib.Dec.{T, leb, ltb, eqb, leb·suc-suc, leb→le, lit≤, lit<, eqb→eq}
 use lib.IntN.{ℤ, pos, negsuc, negℤ}
 use lib.Signed.{ltZ}
 use native.Mathlib.Numerals.{add-one}
-use Rattle.quantiser.proofs.Double.{fits-digits}
+use Rattle.quantiser.proofs.Double.{fits-digits, at, at-is}
 use lib.Pow.{pow-pos, pow-mono, pow-lt, pow-add}
 use lib.Ieee.{Float, nan, inf, fin, binary32, up, down, round, mul, lt, le, eq, neg, fits, odd, units, size, nearest, ofInt, ofBits}
 use lib.Ieee.Fits.{up-pos, down-pos, and-r}
@@ -21,6 +21,7 @@ use lib.Ieee.Scale.{round-same}
 use Rattle.levels.specs.Value.{power}
 use Rattle.quantiser.specs.Round.{halfUp, roundMag, roundAway}
 use Rattle.quantiser.specs.Quantise.{smallOf, isSmall}
+use Rattle.bits.proofs.Tests.{or-right}
 use Rattle.planner.specs.Work.{sizeOf, limitOf}
 
 -- ---- a rounded number lies between the tags exactly where its size is below the tag's
@@ -99,34 +100,15 @@ sign-free s a c =
     go false q k = refl
 
 -- ---- exactness
-exp-le : (i j : ℕ) → 2 ^ i ≤ 2 ^ j → i ≤ j
-exp-le i j h = go (leb i j) refl
-  where
-    go : (t : Bool) → leb i j ≡ t → i ≤ j
-    go true q = leb-true i j q
-    go false q = absurd (not-le-of-lt (pow-lt (leb-false i j q)) h)
-
-at : ℤ → ℕ
-at (pos k) = k + 149
-at (negsuc k) = 149 - suc k
-
-at-is : (e : ℤ) → down e ≤ 2 ^ 149 → up e * 2 ^ 149 ≡ 2 ^ at e * down e
-unfolding at
-at-is (pos k) h = sym (pow-add 2 k 149) ∙ sym (mul-one (2 ^ (k + 149)))
-at-is (negsuc k) h =
-    let l : suc k ≤ 149 = exp-le (suc k) 149 h in
-    let b : 149 - suc k + suc k ≡ 149 = omega arith in
-    one-mul (2 ^ 149) ∙ sym (ap (λ (n : ℕ). 2 ^ n) b) ∙ pow-add 2 (149 - suc k) (suc k)
-
 exact : (n m : ℕ) (e : ℤ) → m < 2 ^ 24 → down e ≤ 2 ^ 149 → m * up e * 2 ^ n < 2 ^ 128 * down e
     → HasValue (round binary32 false (m * up e * 2 ^ n) (down e)) false (m * up e * 2 ^ n) (down e)
 exact n m e small fine bound =
     let d = down e in
     let D : 0 < d = down-pos e in
-    let j = at e + n in
+    let j = at 149 e + n in
     let units : m * up e * 2 ^ n * 2 ^ 149 ≡ m * 2 ^ j * d =
-    mul-right-comm (m * up e) (2 ^ n) (2 ^ 149) ∙ ap (λ (z : ℕ). z * 2 ^ n) (mul-assoc m (up e) (2 ^ 149) ∙ ap (λ (z : ℕ). m * z) (at-is e fine) ∙ sym (mul-assoc m (2 ^ at e) d))
-    ∙ mul-right-comm (m * 2 ^ at e) d (2 ^ n) ∙ ap (λ (z : ℕ). z * d) (mul-assoc m (2 ^ at e) (2 ^ n) ∙ ap (λ (z : ℕ). m * z) (sym (pow-add 2 (at e) n))) in
+    mul-right-comm (m * up e) (2 ^ n) (2 ^ 149) ∙ ap (λ (z : ℕ). z * 2 ^ n) (mul-assoc m (up e) (2 ^ 149) ∙ ap (λ (z : ℕ). m * z) (at-is 149 (omega arith) e fine) ∙ sym (mul-assoc m (2 ^ at 149 e) d))
+    ∙ mul-right-comm (m * 2 ^ at 149 e) d (2 ^ n) ∙ ap (λ (z : ℕ). z * d) (mul-assoc m (2 ^ at 149 e) (2 ^ n) ∙ ap (λ (z : ℕ). m * z) (sym (pow-add 2 (at 149 e) n))) in
     let under : m * 2 ^ j < 2 ^ 277 = lt-of-mul-lt-mul-right d (lt-of-le-of-lt (le-of-eq (sym units)) (lt-of-lt-of-le (mul-lt-mul-of-pos-right bound (pow-pos 149)) (le-of-eq (mul-right-comm (2 ^ 128) d (2 ^ 149))))) in
     round-exact binary32 false (m * up e * 2 ^ n) d m j D small under units
 
@@ -175,10 +157,6 @@ half-test A d P L D u e =
 le-fin : (a b : ℕ) → ltb a b || (eqb a b && true) ≡ leb a b
 le-fin a b = go (leb a b) refl
   where
-    or-right : (s t : Bool) → t ≡ true → s || t ≡ true
-    or-right true t h = refl
-    or-right false t h = h
-
     go : (t : Bool) → leb a b ≡ t → ltb a b || (eqb a b && true) ≡ t
     go true q = ⊎-elim (λ (e : a ≡ b). or-right (ltb a b) (eqb a b && true) (ap (λ (t : Bool). t && true) (eq-eqb a b e))) (λ (l : a < b). ap (λ (t : Bool). t || (eqb a b && true)) (lt-ltb a b l)) (eq-or-lt-of-le (leb-true a b q))
     go false q =

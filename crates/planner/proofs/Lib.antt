@@ -1,9 +1,7 @@
-pub mod Over
 pub mod Optimal
 pub mod Codes
 pub mod Escape
 pub mod Steps
-pub mod Sweep
+pub mod Tallies
 pub mod Chosen
-pub mod Kept
 pub mod Answer

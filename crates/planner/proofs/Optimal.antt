@@ -1,9 +1,12 @@
 -- The plan takes the fewest bits of all choices, and the lowest mode of those. Assumes nothing.
+use Rattle.channel.specs.Bins.{sumOver}
+use Rattle.channel.specs.Row.{activeAt, activeCount, gainAt, sixOf}
+use Rattle.channel.proofs.Over.{sum-none, sum-next, sum-le, sum-same, sum-grows}
 use mathlib.Core.Path.{_≡_, refl, sym, ap, _∙_}
 use mathlib.Core.Bool.{Bool, true, false, cond, _||_, true≢false}
 use mathlib.Core.List.{List, [], _∷_, _++_}
 use mathlib.Core.Logic.{⊎-elim}
-use Prim.Native.Nat.{ℕ, zero, suc, _+_, _*_, _≤_, _<_}
+use Prim.Native.Nat.{ℕ, zero, suc, _+_, _≤_, _<_}
 use native.Mathlib.Nat.{le-refl, le-trans, le-of-eq, le-of-lt, le-of-suc-le-suc, eq-or-lt-of-le}
 use native.Mathlib.Omega.{arith}
 use borrow.Author.Tests.{le-leb, lt-leb, leb-true, leb-false, ltb-true, ltb-false, eqb-true, eq-eqb}
@@ -11,11 +14,11 @@ use lib.Dec.{eqb, leb, ltb}
 use lib.ListN.{length, getD, length-append, List·getD-append}
 use lib.Seq.{getD-at}
 use lib.Ieee.{Float}
-use Rattle.planner.specs.Bins.{sumOver}
+use Rattle.bits.proofs.Tests.{or-right}
 use Rattle.planner.specs.Cost.{binBits}
 use Rattle.gains.specs.Gains.{active, otherGains, member, allowedGain, gainWordBits}
-use Rattle.planner.specs.Choice.{cheapest, activeAt, activeCount, gainAt, chosenAt, payloadOf, Choice, bestGain, leastAt, leastOf, planMode, gainsOver, planGains, planPayload, choiceBits, planBits}
-use Rattle.planner.proofs.Over.{sum-none, sum-next, sum-le, sum-same, sum-grows}
+use Rattle.planner.specs.Choice.{cheaper, cheapest, leastUpTo, chosenAt, payloadOf, Choice, bestGain, leastAt, leastOf, planMode, gainsOver, planGains, planPayload, choiceBits}
+use Rattle.planner.specs.Planning.{planOf, totalOf}
 
 -- ---- the cheapest
 cheaper-le : (cost : ℕ → ℕ) (g k : ℕ) (t : Bool) → ltb (cost k) (cost g) ≡ t → (cost (cond t k g) ≤ cost g) × (cost (cond t k g) ≤ cost k)
@@ -32,10 +35,6 @@ pub one-of : {P : Type 0} (a b c : Bool) → a || (b || c) ≡ true → (a ≡ t
 one-of true b c h p q r = p refl
 one-of false true c h p q r = q refl
 one-of false false c h p q r = r h
-
-pub or-right : (a b : Bool) → b ≡ true → a || b ≡ true
-or-right true b h = refl
-or-right false b h = h
 
 pub cheapest-le : (cost : ℕ → ℕ) (g : ℕ) (ks : List ℕ) (i : ℕ) → member i (g ∷ ks) ≡ true → cost (cheapest cost g ks) ≤ cost i
 unfolding cheapest
@@ -61,62 +60,56 @@ cheapest-in cost g (k ∷ ks) = go (ltb (cost k) (cost g)) (cheapest-in cost k k
     go true p q = or-right (eqb (cheapest cost k ks) g) _ p
     go false p q = skip (eqb (cheapest cost g ks) g) (eqb (cheapest cost g ks) k) (member (cheapest cost g ks) ks) q
 
--- only the costs of those matter
-pub cheapest-same : (f g : ℕ → ℕ) (k : ℕ) (ks : List ℕ) → ((i : ℕ) → member i (k ∷ ks) ≡ true → f i ≡ g i) → cheapest f k ks ≡ cheapest g k ks
+-- only the costs matter
+pub cheapest-same : (f g : ℕ → ℕ) (k : ℕ) (ks : List ℕ) → ((i : ℕ) → f i ≡ g i) → cheapest f k ks ≡ cheapest g k ks
 unfolding cheapest
 cheapest-same f g k [] h = refl
 cheapest-same f g k (j ∷ ks) h =
-    let ej : f j ≡ g j = h j (or-right (eqb j k) (eqb j j || member j ks) (ap (λ (t : Bool). t || member j ks) (eq-eqb j j refl))) in
-    let ek : f k ≡ g k = h k (ap (λ (t : Bool). t || (eqb k j || member k ks)) (eq-eqb k k refl)) in
-    go (ltb (f j) (f k)) (ap (λ (z : ℕ). ltb z (f k)) ej ∙ ap (ltb (g j)) ek) (cheapest-same f g j ks (λ i q. h i (or-right (eqb i k) (eqb i j || member i ks) q)))
-    (cheapest-same f g k ks (λ i q. h i (skip (eqb i k) (eqb i j) (member i ks) q)))
-  where
-    skip : (a b c : Bool) → a || c ≡ true → a || (b || c) ≡ true
-    skip true b c h = refl
-    skip false b c h = or-right b c h
+    ap (λ (t : Bool). cheapest f (cond t j k) ks) (ap (λ (z : ℕ). ltb z (f k)) (h j) ∙ ap (ltb (g j)) (h k)) ∙ cheapest-same f g (cheaper g k j) ks h
 
-    go : (t : Bool) → t ≡ ltb (g j) (g k) → cheapest f j ks ≡ cheapest g j ks → cheapest f k ks ≡ cheapest g k ks → cheapest f (cond t j k) ks ≡ cheapest g (cond (ltb (g j) (g k)) j k) ks
-    go true q a b = a ∙ ap (λ (t : Bool). cheapest g (cond t j k) ks) q
-    go false q a b = b ∙ ap (λ (t : Bool). cheapest g (cond t j k) ks) q
+-- ---- the least of 0 to n
+-- g costs no more than any up to n, and less than any below it
+pub record FirstLeast (cost : ℕ → ℕ) (n g : ℕ) : Type 0 where
+  pub least : (i : ℕ) → i ≤ n → cost g ≤ cost i
+  pub first : (i : ℕ) → i < g → cost g < cost i
+  pub inside : g ≤ n
 
--- g is the first of 0 to n - 1 that costs least
-record FirstLeast (cost : ℕ → ℕ) (n g : ℕ) : Type 0 where
-  least : (i : ℕ) → i < n → cost g ≤ cost i
-  first : (i : ℕ) → i < g → cost g < cost i
-  inside : g < n
-
-first-least : (cost : ℕ → ℕ) (n g : ℕ) (t : Bool) → ltb (cost n) (cost g) ≡ t → FirstLeast cost n g → FirstLeast cost (suc n) (cond t n g)
-first-least cost n g true q f =
-    let l : cost n < cost g = ltb-true (cost n) (cost g) q in
-    let under : (i : ℕ) → i < n → cost n < cost i = λ i h. let r = f .least i h in omega arith in
+least-next : (cost : ℕ → ℕ) (n g : ℕ) (t : Bool) → ltb (cost (suc n)) (cost g) ≡ t → FirstLeast cost n g → FirstLeast cost (suc n) (cond t (suc n) g)
+least-next cost n g true q f =
+    let l : cost (suc n) < cost g = ltb-true (cost (suc n)) (cost g) q in
+    let under : (i : ℕ) → i < suc n → cost (suc n) < cost i = λ i h. let r = f .least i (le-of-suc-le-suc h) in omega arith in
     record {
-      least = λ i h. ⊎-elim (λ (e : i ≡ n). le-of-eq (ap cost (sym e))) (λ (e : i < n). le-of-lt (under i e)) (eq-or-lt-of-le (le-of-suc-le-suc h));
+      least = λ i h. ⊎-elim (λ (e : i ≡ suc n). le-of-eq (ap cost (sym e))) (λ (e : i < suc n). le-of-lt (under i e)) (eq-or-lt-of-le h);
       first = under;
-      inside = omega arith;
+      inside = le-refl (suc n);
     }
-first-least cost n g false q f =
-    let l : cost g ≤ cost n = ltb-false (cost n) (cost g) q in
+least-next cost n g false q f =
+    let l : cost g ≤ cost (suc n) = ltb-false (cost (suc n)) (cost g) q in
     record {
-      least = λ i h. ⊎-elim (λ (e : i ≡ n). le-trans l (le-of-eq (ap cost (sym e)))) (λ (e : i < n). f .least i e) (eq-or-lt-of-le (le-of-suc-le-suc h));
+      least = λ i h. ⊎-elim (λ (e : i ≡ suc n). le-trans l (le-of-eq (ap cost (sym e)))) (λ (e : i < suc n). f .least i (le-of-suc-le-suc e)) (eq-or-lt-of-le h);
       first = f .first;
       inside = let r = f .inside in omega arith;
     }
 
-least-of-four : (cost : ℕ → ℕ) → FirstLeast cost 4 (cheapest cost 0 (1 ∷ 2 ∷ 3 ∷ []))
-unfolding cheapest
-least-of-four cost =
-    let f0 : FirstLeast cost 1 0 = record { least = λ i h. le-of-eq (ap cost (zero-is i h)); first = λ i h. absurd (none i h); inside = omega arith } in
-    let f1 = first-least cost 1 0 (ltb (cost 1) (cost 0)) refl f0 in
-    let g1 : ℕ = cond (ltb (cost 1) (cost 0)) 1 0 in
-    let f2 = first-least cost 2 g1 (ltb (cost 2) (cost g1)) refl f1 in
-    let g2 : ℕ = cond (ltb (cost 2) (cost g1)) 2 g1 in
-    first-least cost 3 g2 (ltb (cost 3) (cost g2)) refl f2
+pub first-least : (cost : ℕ → ℕ) (n : ℕ) → FirstLeast cost n (leastUpTo cost n)
+unfolding leastUpTo
+first-least cost zero = record { least = λ i h. le-of-eq (ap cost (zero-is i h)); first = λ i h. absurd (none i h); inside = le-refl 0 }
   where
-    zero-is : (i : ℕ) → i < 1 → 0 ≡ i
+    zero-is : (i : ℕ) → i ≤ 0 → 0 ≡ i
     zero-is i h = omega arith
 
     none : (i : ℕ) → i < 0 → ⊥
     none i h = omega arith
+first-least cost (suc n) = least-next cost n (leastUpTo cost n) (ltb (cost (suc n)) (cost (leastUpTo cost n))) refl (first-least cost n)
+
+pub least-same : (f g : ℕ → ℕ) (n : ℕ) → ((i : ℕ) → i ≤ n → f i ≡ g i) → leastUpTo f n ≡ leastUpTo g n
+unfolding leastUpTo
+least-same f g zero h = refl
+least-same f g (suc n) h =
+    let m = leastUpTo g n in
+    let i = first-least g n .inside in
+    ap (λ (z : ℕ). cheaper f z (suc n)) (least-same f g n (λ k l. h k (omega arith)))
+    ∙ ap (λ (t : Bool). cond t (suc n) m) (ap (λ (z : ℕ). ltb z (f m)) (h (suc n) (le-refl (suc n))) ∙ ap (ltb (g (suc n))) (h m (omega arith)))
 
 -- ---- one mode
 -- the place of an active bin's gain
@@ -141,15 +134,13 @@ unfolding leastAt chosenAt gainAt bestGain allowedGain
 least-le mode gains row x start k end c h l = go (active mode (getD row k 0)) refl
   where
     cost : ℕ → ℕ
-    cost = binBits (getD row k 0) x (6 * k)
+    cost g = binBits (getD row k 0) g (sixOf x k)
 
-    go : (t : Bool) → active mode (getD row k 0) ≡ t
-        → binBits (getD row k 0) x (6 * k) (cond t (cheapest (binBits (getD row k 0) x (6 * k)) 1 (otherGains mode)) 1)
-        ≤ binBits (getD row k 0) x (6 * k) (cond t (getD gains (activeCount mode row start k) 0) 1)
+    go : (t : Bool) → active mode (getD row k 0) ≡ t → cost (cond t (cheapest cost 1 (otherGains mode)) 1) ≤ cost (cond t (getD gains (activeCount mode row start k) 0) 1)
     go true q =
         let r = rank-lt mode row start k end h l q in
         let o = c .one-each in
-        cheapest-le (binBits (getD row k 0) x (6 * k)) 1 (otherGains mode) (getD gains (activeCount mode row start k) 0) (c .allowed (activeCount mode row start k) (omega arith))
+        cheapest-le cost 1 (otherGains mode) (getD gains (activeCount mode row start k) 0) (c .allowed (activeCount mode row start k) (omega arith))
     go false q = le-refl _
 
 least-mode : (mode : ℕ) (gains row : List ℕ) (x : List Float) (start end : ℕ) → Choice mode gains row start end → leastOf row x start end mode ≤ payloadOf mode gains row x start end
@@ -161,19 +152,19 @@ least-mode mode gains row x start end c =
 -- ---- all modes
 -- No choice has fewer bits than the plan.
 pub plan-least : (mode : ℕ) (gains row : List ℕ) (x : List Float) (start end : ℕ) → Choice mode gains row start end
-    → planBits row x start end ≤ choiceBits mode gains row x start end
-unfolding planBits choiceBits planPayload planMode
+    → totalOf (planOf row x start end) ≤ choiceBits mode gains row x start end
+unfolding planOf choiceBits planPayload planMode
 plan-least mode gains row x start end c =
-    let f = least-of-four (leastOf row x start end) .least mode (let m = c .mode-is in omega arith) in
+    let f = first-least (leastOf row x start end) 3 .least mode (c .mode-is) in
     let m = least-mode mode gains row x start end c in
     omega arith
 
 -- A choice of a lower mode has more.
 pub plan-lowest : (mode : ℕ) (gains row : List ℕ) (x : List Float) (start end : ℕ) → Choice mode gains row start end
-    → mode < planMode row x start end → planBits row x start end < choiceBits mode gains row x start end
-unfolding planBits choiceBits planPayload planMode
+    → mode < planMode row x start end → totalOf (planOf row x start end) < choiceBits mode gains row x start end
+unfolding planOf choiceBits planPayload planMode
 plan-lowest mode gains row x start end c h =
-    let f = least-of-four (leastOf row x start end) .first mode h in
+    let f = first-least (leastOf row x start end) 3 .first mode h in
     let m = least-mode mode gains row x start end c in
     omega arith
 
@@ -217,7 +208,7 @@ gains-length mode row x start (suc e) = go (leb start e) refl (active mode (getD
 
 pub best-allowed : (mode : ℕ) (row : List ℕ) (x : List Float) (e : ℕ) → allowedGain mode (bestGain mode row x e) ≡ true
 unfolding allowedGain bestGain
-best-allowed mode row x e = cheapest-in (binBits (getD row e 0) x (6 * e)) 1 (otherGains mode)
+best-allowed mode row x e = cheapest-in (λ g. binBits (getD row e 0) g (sixOf x e)) 1 (otherGains mode)
 
 pub gains-allowed : (mode : ℕ) (row : List ℕ) (x : List Float) (start end i : ℕ) → i < length (gainsOver mode row x start end)
     → allowedGain mode (getD (gainsOver mode row x start end) i 0) ≡ true
@@ -268,7 +259,7 @@ gains-at mode row x start k (suc e) h l a = go (active mode (getD row e 0)) refl
 
 pub plan-mode : (row : List ℕ) (x : List Float) (start end : ℕ) → planMode row x start end ≤ 3
 unfolding planMode
-plan-mode row x start end = le-of-suc-le-suc (least-of-four (leastOf row x start end) .inside)
+plan-mode row x start end = first-least (leastOf row x start end) 3 .inside
 
 -- The plan's mode and gains are a choice,
 pub plan-choice : (row : List ℕ) (x : List Float) (start end : ℕ) → Choice (planMode row x start end) (planGains row x start end) row start end
@@ -281,15 +272,15 @@ plan-choice row x start end = record {
 
 least-is : (mode : ℕ) (row : List ℕ) (x : List Float) (start k end : ℕ) → start ≤ k → k < end → chosenAt mode (gainsOver mode row x start end) row x start k ≡ leastAt mode row x k
 unfolding chosenAt leastAt gainAt
-least-is mode row x start k end h l = ap (binBits (getD row k 0) x (6 * k)) (go (active mode (getD row k 0)) refl)
+least-is mode row x start k end h l = ap (λ (g : ℕ). binBits (getD row k 0) g (sixOf x k)) (go (active mode (getD row k 0)) refl)
   where
     go : (t : Bool) → active mode (getD row k 0) ≡ t → cond t (getD (gainsOver mode row x start end) (activeCount mode row start k) 0) 1 ≡ cond t (bestGain mode row x k) 1
     go true q = gains-at mode row x start k end h l q
     go false q = refl
 
 -- and its bits are what the plan says.
-pub plan-bits : (row : List ℕ) (x : List Float) (start end : ℕ) → choiceBits (planMode row x start end) (planGains row x start end) row x start end ≡ planBits row x start end
-unfolding choiceBits planBits payloadOf planPayload planGains leastOf
+pub plan-bits : (row : List ℕ) (x : List Float) (start end : ℕ) → choiceBits (planMode row x start end) (planGains row x start end) row x start end ≡ totalOf (planOf row x start end)
+unfolding choiceBits planOf payloadOf planPayload planGains leastOf
 plan-bits row x start end =
     let m = planMode row x start end in
     ap (λ (n : ℕ). 2 + (n + gainWordBits m (activeCount m row start end))) (sum-same (chosenAt m (gainsOver m row x start end) row x start) (leastAt m row x) start end (λ k h l. least-is m row x start k end h l))

@@ -1,5 +1,4 @@
 -- What the crate's contracts cite.
-pub mod Bins
 pub mod Cost
 pub mod Choice
 pub mod Work

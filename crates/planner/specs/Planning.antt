@@ -1,26 +1,29 @@
--- What plan_aht_channel answers: a plan, or a refusal. Document 01, Planner, 'Causes and refusals' (1 to 5, the lowest number that holds), and Writer (gains as Gk in bin order, unused places 0).
+-- What plan_aht_channel answers: a plan, or a refusal. Document 01, Planner, 'Causes and refusals' (1 to 5, the lowest
+-- number that holds), and Writer (gains as Gk in bin order, unused places 0).
 use Prim.Native.Nat.{ℕ, _+_, _*_}
-use mathlib.Core.Bool.{Bool, cond, not, _&&_, _||_}
+use mathlib.Core.Bool.{Bool, cond, not, _&&_}
 use mathlib.Core.List.{List, _++_}
 use lib.Dec.{eqb, ltb}
-use lib.ListN.{length, getD, take, drop, replicate}
+use lib.ListN.{length, getD, take, drop}
 use lib.Ieee.{Float}
+use Rattle.answers.specs.Causes as cause
 use Rattle.levels.specs.Component.{someTooLarge}
-use Rattle.planner.specs.Bins.{someOver}
+use Rattle.channel.specs.Bins.{someOver}
+use Rattle.channel.specs.Row.{noGains, sixOf, rowCause}
 use Rattle.planner.specs.Choice.{planMode, planGains, planPayload}
 use Rattle.planner.specs.declared.Plan.{Plan}
 use Rattle.planner.specs.declared.Planned.{Planned}
 
-unfoldable pub noGains : List ℕ
-noGains = replicate 256 0
-
--- ---- causes 4 and 5 at bin k
-unfoldable pub unknownAt : List ℕ → ℕ → Bool
-unknownAt row k = ltb 19 (getD row k 0)
-
--- a component NaN, infinite or over 1024 in size, in a bin with hebap not 0
+-- ---- the cause
+-- 5 at the bin k: a component that is not accepted, and hebap not 0
 unfoldable pub tooLargeAt : List ℕ → List Float → ℕ → Bool
-tooLargeAt row x k = not (eqb (getD row k 0) 0) && someTooLarge (take 6 (drop (6 * k) x))
+tooLargeAt row x k = not (eqb (getD row k 0) 0) && someTooLarge (sixOf x k)
+
+-- 1 to 5: the lowest that holds, 0 where none does
+unfoldable pub causeOf : List ℕ → ℕ → ℕ → List Float → ℕ
+causeOf row start end x =
+    let k = rowCause row start end (ltb (length x) (6 * end)) in
+    cond (eqb k 0) (cond (someOver (tooLargeAt row x) start end) cause.component cause.none) k
 
 -- ---- the answer
 -- a plan of zeros stands beside a refusal
@@ -39,18 +42,13 @@ planOf row x start end = record {
   payload = planPayload row x start end;
 }
 
+-- the gains of a plan; its other places are not looked at
+abbrev pub gainsOf : Plan → List ℕ
+gainsOf p = take (p .count) (p .gains)
+
 -- the total: the two bits of the mode and the payload
 abbrev pub totalOf : Plan → ℕ
 totalOf p = 2 + p .payload
-
--- causes 1 to 5: the lowest that holds, 0 where none does
-unfoldable pub causeOf : List ℕ → ℕ → ℕ → List Float → ℕ
-causeOf row start end x =
-    cond (ltb end start) 1
-    (cond (ltb 256 end) 2
-    (cond (ltb (length row) end || ltb (length x) (6 * end)) 3
-    (cond (someOver (unknownAt row) start end) 4
-    (cond (someOver (tooLargeAt row x) start end) 5 0))))
 
 unfoldable pub planned : List ℕ → ℕ → ℕ → List Float → Planned
 planned row start end x =

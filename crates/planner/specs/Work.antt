@@ -1,22 +1,23 @@
--- What the planner works with on the way to Choice: the costs of a bin at each gain, and the bits of each mode. Document 01, Planner.
-use Prim.Native.Nat.{ℕ, _+_, _-_, _*_, _^_, _≤_}
-use mathlib.Core.Bool.{false, cond, _&&_}
-use mathlib.Core.List.{List, [], _∷_, _++_}
+-- What the planner works with on the way to Choice: the costs of a bin at each gain, and what it keeps of each mode.
+-- Nothing here has a meaning of its own. Document 01, Planner.
+use Prim.Native.Nat.{ℕ, _+_, _-_, _*_, _^_, _≤_, _<_}
+use mathlib.Core.Path.{_≡_}
+use mathlib.Core.Bool.{Bool, false, cond}
+use mathlib.Core.List.{List}
 use lib.Dec.{eqb, leb}
 use lib.IntN.{negsuc}
-use lib.ListN.{length, getD, drop, set}
+use lib.ListN.{length, getD, take, drop, set}
 use lib.Ieee.{Float, nan, fin, lt, le, neg}
 use Rattle.tables.specs.Tables.{mantBits, vqBits}
-use Rattle.gains.specs.Gains.{active, codingOf, otherGains, gainWordBits}
-use Rattle.gains.specs.declared.Coding.{Coding}
+use Rattle.gains.specs.Gains.{active, otherGains, gainWordBits}
 use Rattle.levels.specs.Value.{f0}
-use Rattle.planner.specs.Bins.{sumOver}
-use Rattle.planner.specs.Cost.{sixBits}
-use Rattle.planner.specs.Choice.{cheapest, leastAt, activeCount, gainsOver}
-use Rattle.planner.specs.Planning.{noGains}
+use Rattle.levels.specs.Codes.{codeBits}
+use Rattle.quantiser.specs.Quantise.{picked, codesBits}
+use Rattle.channel.specs.Bins.{sumOver}
+use Rattle.channel.specs.Row.{activeCount, RowOk}
+use Rattle.planner.specs.Choice.{cheapest, leastAt, gainsOver}
 use Rattle.planner.specs.declared.Costs.{Costs}
 use Rattle.planner.specs.declared.Limits.{Limits}
-use Rattle.planner.specs.declared.Tally.{Tally}
 
 -- ---- one component
 -- the size of x; -0 is left as it is
@@ -31,6 +32,14 @@ unfoldable pub limitsOf : ℕ → Limits
 limitsOf h = let m = mantBits h in record { two = limitOf (m - 1) (m - 1); four = limitOf (m - 1) (m - 2) }
 
 -- ---- one bin
+-- the component at the place i of the vectors, at the gain g: the bits of the quantiser's code
+unfoldable pub componentBits : ℕ → ℕ → List Float → ℕ → ℕ
+componentBits h g x i = codeBits (mantBits h) g (picked h g (getD x i nan) .0)
+
+-- six codes, where the six components start at the place a: codesBits of them, by the law six-codes
+unfoldable pub sixBits : ℕ → List Float → ℕ → ℕ → ℕ
+sixBits h x a g = sumOver (componentBits h g x) a (a + 6)
+
 -- one for a component that takes the tag
 abbrev pub tagAt : Float → List Float → ℕ → ℕ
 tagAt limit x k = cond (le limit (sizeOf (getD x k nan))) 1 0
@@ -39,11 +48,9 @@ tagAt limit x k = cond (le limit (sizeOf (getD x k nan))) 1 0
 unfoldable pub taggedBits : List Float → ℕ → Float → ℕ → ℕ → ℕ
 taggedBits x a limit small large = 6 * small + sumOver (tagAt limit x) a (a + 6) * large
 
--- six codes at Gk 1, 2 and 4; only hebap 8 to 16 may have a gain other than 1
-unfoldable pub costsOf : ℕ → List Float → ℕ → Costs
-costsOf h x a =
-    let gained = leb 8 h && leb h 16 in
-    record { one = sixBits h x a 1; two = cond gained (sixBits h x a 2) 0; four = cond gained (sixBits h x a 4) 0 }
+-- six components at Gk 1, 2 and 4
+unfoldable pub costsOf : ℕ → List Float → Costs
+costsOf h v = record { one = codesBits h 1 v; two = codesBits h 2 v; four = codesBits h 4 v }
 
 unfoldable pub costIn : Costs → ℕ → ℕ
 costIn c g = cond (eqb g 1) (c .one) (cond (eqb g 2) (c .two) (c .four))
@@ -51,77 +58,67 @@ costIn c g = cond (eqb g 1) (c .one) (cond (eqb g 2) (c .two) (c .four))
 unfoldable pub gainIn : ℕ → Costs → ℕ
 gainIn mode c = cheapest (costIn c) 1 (otherGains mode)
 
--- a bin by its coding, at the gain g if it has one of its own
-unfoldable pub codedBits : Coding → ℕ → Costs → ℕ → ℕ
-codedBits Coding.Nothing h c g = 0
-codedBits Coding.Book h c g = vqBits h
-codedBits Coding.Fixed h c g = c .one
-codedBits Coding.Adaptive h c g = costIn c g
+-- six components at Gk 1, or the index of a book: the bits of a bin that is active in no mode
+unfoldable pub plainBits : ℕ → ℕ
+plainBits h = cond (leb h 7) (vqBits h) (6 * mantBits h)
 
-unfoldable pub leastIn : ℕ → ℕ → Costs → ℕ
-leastIn mode h c = codedBits (codingOf mode h) h c (gainIn mode c)
+-- ---- one mode
+-- the bits of the bins of hebap 8 to 16, how many are active in the mode, and 256 places of gains, the first ones used
+pub record Tally : Type 0 where
+  pub bits : ℕ
+  pub count : ℕ
+  pub gains : List ℕ
 
--- ---- all bins
-unfoldable pub tallyOf : List ℕ → List Float → ℕ → ℕ → Tally
-tallyOf row x start end = record {
-  bits0 = sumOver (leastAt 0 row x) start end;
-  bits1 = sumOver (leastAt 1 row x) start end;
-  bits2 = sumOver (leastAt 2 row x) start end;
-  bits3 = sumOver (leastAt 3 row x) start end;
-  active1 = activeCount 1 row start end;
-  active2 = activeCount 2 row start end;
+-- where they stand
+unfoldable pub modeAt : List ℕ → List ℕ → List ℕ → ℕ → Tally
+modeAt bits used kept mode = record { bits = getD bits mode 0; count = getD used mode 0; gains = take 256 (drop (256 * mode) kept) }
+
+-- with one more bin of the hebap h
+unfoldable pub withBin : ℕ → ℕ → Costs → Tally → Tally
+withBin mode h c t = record {
+  bits = t .bits + costIn c (cond (active mode h) (gainIn mode c) 1);
+  count = t .count + cond (active mode h) 1 0;
+  gains = cond (active mode h) (set (t .gains) (t .count) (gainIn mode c)) (t .gains);
 }
 
-unfoldable pub withBin : Tally → ℕ → Costs → Tally
-withBin t h c = record {
-  bits0 = t .bits0 + leastIn 0 h c;
-  bits1 = t .bits1 + leastIn 1 h c;
-  bits2 = t .bits2 + leastIn 2 h c;
-  bits3 = t .bits3 + leastIn 3 h c;
-  active1 = t .active1 + cond (active 1 h) 1 0;
-  active2 = t .active2 + cond (active 2 h) 1 0;
-}
+-- ---- all modes
+-- the modes that p names have one bin more than before
+abbrev pub OneBinMore : (ℕ → Bool) → ℕ → Costs → (ℕ → Tally) → (ℕ → Tally) → Type 0
+OneBinMore p h c old new = (m : ℕ) → m ≤ 3 → new m ≡ cond (p m) (withBin m h c (old m)) (old m)
 
--- the payload of a mode; modes 2 and 3 have the same active bins
-unfoldable pub payloadIn : Tally → ℕ → ℕ
-payloadIn t mode =
-    cond (eqb mode 0) (t .bits0)
-    (cond (eqb mode 1) (t .bits1 + gainWordBits 1 (t .active1))
-    (cond (eqb mode 2) (t .bits2 + gainWordBits 2 (t .active2)) (t .bits3 + gainWordBits 3 (t .active2))))
+-- room for four modes
+pub record FourModes (bits used kept : List ℕ) : Type 0 where
+  pub for-bits : length bits ≡ 4
+  pub for-used : length used ≡ 4
+  pub for-gains : length kept ≡ 1024
 
-unfoldable pub modeIn : Tally → ℕ
-modeIn t = cheapest (payloadIn t) 0 (1 ∷ 2 ∷ 3 ∷ [])
+-- so small that sums of them fit, and room for a gain more
+pub record Small (t : Tally) : Type 0 where
+  pub few-bits : t .bits ≤ 65536
+  pub few-gains : t .count < 256
 
--- ---- the gains of each mode, kept while the bins are gone through
--- how many bins are active in a mode; modes 2 and 3 have the same
-unfoldable pub countIn : Tally → ℕ → ℕ
-countIn t mode = cond (eqb mode 0) 0 (cond (eqb mode 1) (t .active1) (t .active2))
+abbrev pub AllSmall : (ℕ → Tally) → Type 0
+AllSmall t = (m : ℕ) → m ≤ 3 → Small (t m)
 
--- the gain of a bin at the place n, where it is active
-unfoldable pub withGain : ℕ → ℕ → Costs → ℕ → List ℕ → List ℕ
-withGain mode h c n gains = cond (active mode h) (set gains n (gainIn mode c)) gains
+-- the bins start to end - 1, where plain is the bits of those that are active in no mode
+pub record TallyOf (row : List ℕ) (x : List Float) (start end plain mode : ℕ) (t : Tally) : Type 0 where
+  pub bits-are : plain + t .bits ≡ sumOver (leastAt mode row x) start end
+  pub count-is : t .count ≡ activeCount mode row start end
+  pub gains-are : take (t .count) (t .gains) ≡ gainsOver mode row x start end
+  pub places : length (t .gains) ≡ 256
 
--- the gains of a mode in the first places, and what was there before in the others
-unfoldable pub gainsKept : ℕ → List ℕ → List Float → ℕ → ℕ → List ℕ → List ℕ
-gainsKept mode row x start end old = gainsOver mode row x start end ++ drop (length (gainsOver mode row x start end)) old
+abbrev pub TalliesOf : List ℕ → List Float → ℕ → ℕ → ℕ → (ℕ → Tally) → Type 0
+TalliesOf row x start end plain t = (m : ℕ) → m ≤ 3 → TallyOf row x start end plain m (t m)
 
--- those of one mode; mode 0 has none
-unfoldable pub keptIn : ℕ → List ℕ → List ℕ → List ℕ → List ℕ
-keptIn mode g1 g2 g3 = cond (eqb mode 1) g1 (cond (eqb mode 2) g2 (cond (eqb mode 3) g3 noGains))
+-- the payload of a mode
+unfoldable pub payloadIn : ℕ → List ℕ → List ℕ → ℕ → ℕ
+payloadIn plain bits used mode = plain + getD bits mode 0 + gainWordBits mode (getD used mode 0)
 
--- ---- bounds
--- so small that sums of them fit
-pub record Bounded (t : Tally) : Type 0 where
-  pub bits0-is : t .bits0 ≤ 65536
-  pub bits1-is : t .bits1 ≤ 65536
-  pub bits2-is : t .bits2 ≤ 65536
-  pub bits3-is : t .bits3 ≤ 65536
-  pub active1-is : t .active1 ≤ 65536
-  pub active2-is : t .active2 ≤ 65536
+-- so small that the sum fits
+abbrev pub AllFew : ℕ → List ℕ → List ℕ → Type 0
+AllFew plain bits used = (m : ℕ) → m ≤ 3 → (plain + getD bits m 0 ≤ 65536) × (getD used m 0 ≤ 256)
 
--- none of causes 1 to 3 holds
+-- ---- what holds where none of causes 1 to 4 does
 pub record Within (row : List ℕ) (start end : ℕ) (x : List Float) : Type 0 where
-  pub bins : start ≤ end
-  pub few : end ≤ 256
-  pub rows : end ≤ length row
+  pub row-ok : RowOk row start end
   pub vectors : 6 * end ≤ length x

@@ -13,7 +13,7 @@ use borrow.Author.Tests.{le-leb, lt-leb}
 use Rattle.bits.specs.Bits.{splice}
 use Rattle.bits.proofs.Laws.{splice-none, splice-one, splice-more, length-splice}
 use Rattle.planner.specs.declared.Plan.{Plan}
-use Rattle.plantext.specs.PlanText.{decimal, number, hexOf, spaced, hexes, line, modeName, gainsName, payloadName, totalName, fieldName, choiceLines, sizeLines, planText, refusedText}
+use Rattle.plantext.specs.PlanText.{decimal, numeral, hexOf, spaced, hexes, line, modeName, gainsName, payloadName, totalName, fieldName, choiceLines, sizeLines, planText, refusedText}
 
 -- w stands from a place on, within the list, and r is the place after it
 pub record Put (out : List ℕ) (at : ℕ) (w after : List ℕ) (r : ℕ) : Type 0 where
@@ -91,20 +91,20 @@ module _ (out : List ℕ) (at n : ℕ) where
       rw (le-leb 10 n l) (put-both v (put-byte mid p (48 + n % 10) (omega arith)))
 
 -- ---- numbers after spaces
-pub spaced-one : (n : ℕ) → spaced (n ∷ []) ≡ 32 ∷ number n
+pub spaced-one : (n : ℕ) → spaced (n ∷ []) ≡ 32 ∷ numeral n
 unfolding spaced
-spaced-one n = append-nil (32 ∷ number n)
+spaced-one n = append-nil (32 ∷ numeral n)
 
 spaced-append : (xs ys : List ℕ) → spaced (xs ++ ys) ≡ spaced xs ++ spaced ys
 unfolding spaced
 spaced-append [] ys = refl
-spaced-append (x ∷ xs) ys = ap (λ (l : List ℕ). (32 ∷ number x) ++ l) (spaced-append xs ys) ∙ sym (append-assoc (32 ∷ number x) (spaced xs) (spaced ys))
+spaced-append (x ∷ xs) ys = ap (λ (l : List ℕ). (32 ∷ numeral x) ++ l) (spaced-append xs ys) ∙ sym (append-assoc (32 ∷ numeral x) (spaced xs) (spaced ys))
 
 -- eleven bytes a number at most
 pub spaced-fits : (ns : List ℕ) → length (spaced ns) ≤ 11 * length ns
 unfolding spaced
 spaced-fits [] = omega arith
-spaced-fits (n ∷ ns) = let h = spaced-fits ns in let d = decimal-fits 10 n in rw (length-append (32 ∷ number n) (spaced ns)) (omega arith)
+spaced-fits (n ∷ ns) = let h = spaced-fits ns in let d = decimal-fits 10 n in rw (length-append (32 ∷ numeral n) (spaced ns)) (omega arith)
 
 pub spaced-none : (out ns : List ℕ) (at : ℕ) → at ≤ length out → Put out at (spaced (take 0 ns)) out at
 unfolding spaced
@@ -147,7 +147,7 @@ hexes-turn {after = after} {p = p} bs i x y h f w ex ey =
     rw (add-one, take-suc bs i 0 h, hexes-append, ← ex, ← ey) (put-both w (put-three after p 32 x y f))
 
 -- ---- lines
-pub length-line : (name items : List ℕ) → length (line name items) ≡ 3 + (length name + length items)
+length-line : (name items : List ℕ) → length (line name items) ≡ 3 + (length name + length items)
 unfolding line
 length-line name items = simp length-append (omega arith)
 

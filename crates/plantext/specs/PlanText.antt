@@ -4,8 +4,7 @@ use mathlib.Core.Bool.{cond}
 use mathlib.Core.List.{List, [], _∷_, _++_}
 use lib.Dec.{leb}
 use Rattle.planner.specs.declared.Plan.{Plan}
-use Rattle.planner.specs.Planning.{totalOf}
-use Rattle.writer.specs.Written.{gainsOf}
+use Rattle.planner.specs.Planning.{totalOf, gainsOf}
 
 -- ---- items
 -- a number in base ten, of at most so many digits: 48 is 0; ten digits hold every u32
@@ -13,8 +12,8 @@ unfoldable pub decimal : ℕ → ℕ → List ℕ
 decimal zero n = []
 decimal (suc places) n = cond (leb 10 n) (decimal places (n / 10) ++ ((48 + n % 10) ∷ [])) ((48 + n) ∷ [])
 
-abbrev pub number : ℕ → List ℕ
-number n = decimal 10 n
+abbrev pub numeral : ℕ → List ℕ
+numeral n = decimal 10 n
 
 -- a lower-case hex digit: 48 is 0 and 97 is a
 unfoldable pub hexOf : ℕ → ℕ
@@ -23,7 +22,7 @@ hexOf d = cond (leb 10 d) (87 + d) (48 + d)
 -- each number after a space
 unfoldable pub spaced : List ℕ → List ℕ
 spaced [] = []
-spaced (n ∷ ns) = (32 ∷ number n) ++ spaced ns
+spaced (n ∷ ns) = (32 ∷ numeral n) ++ spaced ns
 
 -- each byte as two hex digits after a space
 unfoldable pub hexes : List ℕ → List ℕ

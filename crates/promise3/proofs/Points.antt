@@ -1,4 +1,5 @@
--- P1 to P12 of document 01 ('Points to hold to'), over the definitions that the public calls' contracts cite. Assumes nothing.
+-- P1 to P12 of document 01 ('Points to hold to'), over the definitions that the public calls' contracts cite. Assumes
+-- nothing.
 use Prim.Native.Nat.{ℕ, _+_, _-_, _*_, _/_}
 use native.Mathlib.Nat.{le-refl}
 use native.Mathlib.Omega.{arith}
@@ -13,26 +14,27 @@ use Rattle.bits.specs.Bits.{bitsN, numberOf, bitsOf}
 use Rattle.bits.specs.Format.{got, refused, number, each-enc}
 use Rattle.tables.specs.Numbers.{hebaptab, mantBitsTable, gaqRemapTable}
 use Rattle.tables.specs.Tables.{mantBits, gaqRemapAt, hebapFromAddress}
-use Rattle.tables.specs.declared.HebapResult.the-variants.{Hebap}
+use Rattle.answers.specs.declared.ByteResult.the-variants.{Value}
 use Rattle.levels.specs.declared.Code.{Code}
 use Rattle.levels.specs.Codes.{tagged, coded}
 use Rattle.levels.specs.Component.{tooLarge}
 use Rattle.levels.specs.Exact.{exactOf}
 use Rattle.levels.specs.Value.{f0, q15, offsetAt, gaqRemap, divided}
 use Rattle.gains.specs.Gains.{endbap, active, codingOf, otherGains, gainValue, wordBits, sections, gainWordBits, wordCodes, codesFrom, wordsRead, wordsEnd, gainCodes, gainsAfter}
-use Rattle.field.specs.Field.{groupWords, gainWords, binOf, activeBins, binsOf}
+use Rattle.channel.specs.Bins.{from, sumOver, someOver}
+use Rattle.channel.specs.Row.{activeAt, activeCount, gainAt, noGains, unknownAt, rowCause}
+use Rattle.channel.specs.Field.{groupWords, gainWords, binOf, binAt}
+use Rattle.channel.proofs.Over.{sum-none}
 use Rattle.quantiser.specs.Round.{roundMag, roundAway}
-use Rattle.quantiser.specs.Quantise.{absF, valueAt, probed, bestOf, estOne, bestOne, slopeAt, estLarge, bestLarge, smallOf, oneCode, largeCode, taggedCode, picked, allowed, quantised}
+use Rattle.quantiser.specs.Quantise.{absF, valueAt, probed, bestOf, estOne, bestOne, slopeAt, estLarge, bestLarge, smallOf, oneCode, largeCode, taggedCode, picked, codesBits, allowed, quantised}
 use Rattle.quantiser.specs.declared.PickResult.{PickResult}
-use Rattle.planner.specs.Bins.{sumOver, someOver}
-use Rattle.planner.specs.Cost.{componentBits, sixBits, binBits}
-use Rattle.planner.specs.Choice.{cheapest, activeAt, activeCount, bestGain, leastAt, leastOf, planMode, gainsOver, planGains, planPayload}
-use Rattle.planner.specs.Planning.{noGains, unknownAt, tooLargeAt, planOf, totalOf, causeOf, planned}
+use Rattle.planner.specs.Cost.{binBits}
+use Rattle.planner.specs.Choice.{cheapest, leastUpTo, bestGain, leastAt, leastOf, planMode, gainsOver, planGains, planPayload}
+use Rattle.planner.specs.Planning.{tooLargeAt, planOf, totalOf, causeOf, planned}
 use Rattle.planner.specs.declared.Plan.{Plan}
-use Rattle.planner.proofs.Over.{sum-none}
-use Rattle.planner.proofs.Optimal.{cheapest-same, gains-none}
-use Rattle.writer.specs.Written.{itemsFrom, fieldOf}
-use Rattle.reader.specs.Reading.{readCause, channelAt, channelRead}
+use Rattle.planner.proofs.Optimal.{least-same, gains-none}
+use Rattle.writer.specs.Written.{fieldOf}
+use Rattle.reader.specs.Reading.{call, readCause, found}
 
 -- ---- how the points show an answer
 -- the bits of the picked code and its exact value; none where the quantiser refuses
@@ -81,19 +83,20 @@ pub record Points : Type 0 where
   pub p6 : (coded (mantBits 8) 2 .dec (true ∷ false ∷ true ∷ true ∷ []) ≡ got (Code.Large 3) []) × (exactOf 8 2 (Code.Large 3) ≡ negsuc 536854527)
   -- hebap 9, Gk 2: 0.375 small, 0.4375 and -0.4375 escape
   pub p7 : IsSmall (quantised 9 2 (f32 0x3ec0_0000)) × Escapes (quantised 9 2 (f32 0x3ee0_0000)) × Escapes (quantised 9 2 (f32 0xbee0_0000))
-  -- word 26 is 2, 2, 2; 27 is refused, though read_gaq_gains gives 2, 0, 0 (the byte f6 has mode 3 and then word 27, d8 has word 27)
+  -- word 26 is 2, 2, 2; 27 is refused, though read_gaq_gains gives 2, 0, 0 (the byte f6 has mode 3 and then word 27,
+  -- d8 has word 27)
   pub p8 : (wordCodes 3 26 ≡ 2 ∷ 2 ∷ 2 ∷ [])
       × (groupWords 3 .dec (bitsN 5 26) ≡ got (4 ∷ 4 ∷ 4 ∷ []) [])
       × (groupWords 3 .dec (bitsN 5 27) ≡ refused 9)
-      × (channelRead (0xf6 ∷ []) 0 (8 ∷ 8 ∷ 8 ∷ []) 0 3 18 18 3 ≡ refused 9)
+      × (found (8 ∷ 8 ∷ 8 ∷ []) 0 3 (call (0xf6 ∷ []) 0 (replicate 18 f0) (replicate 18 (pos 0)) (replicate 3 0)) ≡ refused 9)
       × (wordCodes 3 27 ≡ 2 ∷ 0 ∷ 0 ∷ [])
       × (gainsAfter (0xd8 ∷ []) 0 3 1 (1 ∷ 1 ∷ 1 ∷ []) ≡ 2 ∷ 0 ∷ 0 ∷ [])
   -- hebap 12 is active in mode 2, not 1
   pub p9 : (active 2 12 ≡ true) × (active 1 12 ≡ false)
   -- hebap_from_address at difference 255 gives 7, at 256 gives 8, at -1 gives 0
-  pub p10 : (hebapFromAddress (pos 255) (pos 0) ≡ Hebap 7)
-      × (hebapFromAddress (pos 256) (pos 0) ≡ Hebap 8)
-      × (hebapFromAddress (pos 0) (pos 1) ≡ Hebap 0)
+  pub p10 : (hebapFromAddress (pos 255) (pos 0) ≡ Value 7)
+      × (hebapFromAddress (pos 256) (pos 0) ≡ Value 8)
+      × (hebapFromAddress (pos 0) (pos 1) ≡ Value 0)
   -- the desk channel: modes 0 to 3 have payload 18, 13, 13, 17
   pub p11 : (map (leastOf deskRow deskVectors 0 2) (0 ∷ 1 ∷ 2 ∷ 3 ∷ []) ≡ 18 ∷ 13 ∷ 13 ∷ 17 ∷ [])
       × (planned deskRow 0 2 deskVectors ≡ record { refusal = 0; plan = deskPlan })
@@ -123,25 +126,25 @@ module _ (row : List ℕ) (x : List Float) (s : ℕ) where
   no-payload mode = rw (sum-none (leastAt mode row x) s s (le-refl s), sum-none (activeAt mode row) s s (le-refl s), no-words mode)
 
   lowest-mode : planMode row x s s ≡ 0
-  unfolding planMode cheapest
-  lowest-mode = cheapest-same (leastOf row x s s) (λ mode. 0) 0 (1 ∷ 2 ∷ 3 ∷ []) (λ mode m. no-payload mode)
+  unfolding planMode leastUpTo
+  lowest-mode = least-same (leastOf row x s s) (λ mode. 0) 3 (λ mode m. no-payload mode)
 
   no-gains : planGains row x s s ≡ []
   unfolding planGains
   no-gains = gains-none (planMode row x s s) row x s s (le-refl s)
 
   p1-is : (totalOf (planOf row x s s) ≡ 2) × (fieldOf (planOf row x s s) row s s x ≡ false ∷ false ∷ [])
-  unfolding planOf planPayload number bitsN gainWords activeBins binsOf each-enc itemsFrom
+  unfolding planOf planPayload number bitsN gainWords from each-enc
   p1-is = (rw (no-payload (planMode row x s s)), let none : s - s ≡ 0 = omega arith in rw (none, no-gains, lowest-mode))
 
 -- ---- the rest compute
 pub points : Points
 unfolding sub mul div le ofInt ofBits isNan bitsN numberOf bitsOf number each-enc hebaptab mantBitsTable gaqRemapTable mantBits gaqRemapAt hebapFromAddress
     tagged coded tooLarge exactOf q15 offsetAt gaqRemap divided endbap active codingOf otherGains gainValue wordBits sections gainWordBits wordCodes
-    codesFrom wordsRead wordsEnd gainCodes gainsAfter groupWords gainWords binOf activeBins binsOf roundMag roundAway absF valueAt probed bestOf estOne
-    bestOne slopeAt estLarge bestLarge smallOf oneCode largeCode taggedCode picked quantised sumOver someOver componentBits sixBits binBits cheapest
-    activeAt activeCount bestGain leastAt leastOf planMode gainsOver planGains planPayload noGains unknownAt tooLargeAt planOf causeOf planned itemsFrom
-    readCause channelAt channelRead
+    codesFrom wordsRead wordsEnd gainCodes gainsAfter groupWords gainWords binOf binAt gainAt from roundMag roundAway absF valueAt probed bestOf estOne
+    bestOne slopeAt estLarge bestLarge smallOf oneCode largeCode taggedCode picked quantised sumOver someOver binBits codesBits cheapest leastUpTo
+    activeAt activeCount bestGain leastAt leastOf planMode gainsOver planGains planPayload noGains unknownAt tooLargeAt planOf causeOf planned rowCause
+    readCause found
 points = record {
   p1 = p1-is;
   p2 = refl;

@@ -11,17 +11,18 @@ use Rattle.planner.specs.Choice.{Choice, choiceBits}
 use Rattle.planner.specs.Planning.{planned, totalOf}
 use Rattle.planner.specs.declared.Plan.{Plan}
 use Rattle.planner.proofs.Answer.{answer-least, answer-lowest}
-use Rattle.writer.specs.Written.{fieldOf, channelWrite, channelWritten}
-use Rattle.fathrugg.specs.Answers.{writeNumber, writePlace}
-use Rattle.promise3.specs.Promise.{Allowed, Call, answerTo, acceptedField, LongEnough, SameShown, ShowsPlan}
+use Rattle.writer.specs.Written.{fieldOf, channelWrite, channelWritten, writeNumber, writePlace}
+use Rattle.writer.proofs.Planned.{field-long, is-written}
+use Rattle.reader.specs.Reading.{Call, call, answerTo}
+use Rattle.promise3.specs.Promise.{Allowed, acceptedField, LongEnough, SameShown, ShowsPlan}
 use Rattle.promise3.proofs.Calls.{accepted-found}
-use Rattle.promise3.proofs.Plans.{given, field-long, is-written}
+use Rattle.promise3.proofs.Plans.{given}
 use Rattle.promise3.proofs.Same.{found-same}
 use Rattle.promise3.proofs.Trips.{answered, shows}
 
--- For every row and bins, any two fields that the channel reader accepts for them, in whichever buffers and at whichever positions, are
--- equal exactly when they show the same mode, the same gains, the same book index in every book bin and the same six exact values in
--- every scalar bin.
+-- For every row and bins, any two fields that the channel reader accepts for them, in whichever buffers and at
+-- whichever positions, are equal exactly when they show the same mode, the same gains, the same book index in every
+-- book bin and the same six exact values in every scalar bin.
 pub equal-exactly : (row : List ℕ) (start end : ℕ) (c c′ : Call) → answerTo row start end c .refusal ≡ 0 → answerTo row start end c′ .refusal ≡ 0
     → (acceptedField row start end c ≡ acceptedField row start end c′) ↔ SameShown row start end c c′
 equal-exactly row start end c c′ h h′ = found-same row start end c c′ (accepted-found row start end c h) (accepted-found row start end c′ h′)
@@ -40,18 +41,19 @@ module _ (row : List ℕ) (start end : ℕ) (x : List Float) (a : Allowed row st
         × (writePlace (posOf at) (channelWrite p row start end x out at) ≡ posOf (at + totalOf p))
         × (channelWritten p row start end x out at ≡ bytesWith out at (fieldOf p row start end x))
         × (length (fieldOf p row start end x) ≡ totalOf p)
-    exactly-total = let w = is-written row start end x a out at space in (ap writeNumber (w .0), ap (writePlace (posOf at)) (w .0), w .1, field-long row start end x a)
+    exactly-total = let w = is-written row start end x plan-given out at space in (ap writeNumber (w .0), ap (writePlace (posOf at)) (w .0), w .1, field-long row start end x plan-given)
 
     module _ (v : List Float) (e : List ℤ) (i : List ℕ) where
       abbrev c : Call
-      c = record { src = channelWritten p row start end x out at; at = at; values = v; exact = e; indices = i }
+      c = call (channelWritten p row start end x out at) at v e i
 
       module _ (long : LongEnough row start end c) where
         -- The channel reader accepts that field for the row and bins.
         pub accepted : (answerTo row start end c .refusal ≡ 0) × (answerTo row start end c .bits ≡ totalOf p) × (acceptedField row start end c ≡ fieldOf p row start end x)
         accepted = answered row start end x a out at space v e i long
 
-        -- It shows the plan's mode and gains, the search's index in every book bin and the quantiser's values in every scalar bin.
+        -- It shows the plan's mode and gains, the search's index in every book bin and the quantiser's values in
+        -- every scalar bin.
         pub shows-plan : ShowsPlan p row start end x c
         shows-plan = shows row start end x a out at space v e i long
 

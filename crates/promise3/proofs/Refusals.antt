@@ -10,8 +10,9 @@ use Rattle.bits.specs.Format.{Got, got, refused, andThen, Format, number, only,
 use Rattle.tables.specs.Tables.{mantBits, vqBits}
 use Rattle.levels.specs.Codes.{tag, smallBits, largeBits, toCode, ofCode, ofLarge, tagged, coded}
 use Rattle.levels.specs.declared.Code.{Code}
-use Rattle.field.specs.Field.{oneGain, twoGains, gainCode, gainBit, groupWord, first, second, third, packed, groupWords, gainWords, Bin, none, book, scalar, index, codes, ofIndex, ofCodes, item, activeBins, binsOf, field}
-use Rattle.field.proofs.Laws.{by-mode}
+use Rattle.channel.specs.Row.{activeCount}
+use Rattle.channel.specs.Field.{oneGain, twoGains, gainCode, gainBit, grpgain, first, second, third, packed, groupWords, gainWords, Bin, none, book, scalar, index, codes, ofIndex, ofCodes, lenient, item, binsOf, fromParts, toParts, behindMode, field}
+use Rattle.channel.proofs.Laws.{by-mode}
 use Rattle.gains.specs.Gains.{gainValue}
 
 -- a value, or a refusal whose number is not 0
@@ -55,19 +56,19 @@ each-numbered F f (r ∷ rs) bs =
     (λ a rest. then (each-dec F rs rest) (λ xs rest′. got (a ∷ xs) rest′) (each-numbered F f rs rest) (λ xs rest′. tt))
 
 -- ---- of the field's
-groupWord-numbered : Refusing groupWord
+groupWord-numbered : Refusing grpgain
 groupWord-numbered = tested-numbered (number 5) (λ w. leb w 26) 9 (number-numbered 5) (omega arith)
 
 groupWords-numbered : (n : ℕ) → Refusing (groupWords n)
 unfolding groupWords
 groupWords-numbered zero = λ bs. tt
 groupWords-numbered (suc zero) =
-    shown-numbered (tested groupWord oneGain 10) (λ w. first w ∷ []) packed (tested-numbered groupWord oneGain 10 groupWord-numbered (omega arith))
+    shown-numbered (tested grpgain oneGain 10) (λ w. first w ∷ []) packed (tested-numbered grpgain oneGain 10 groupWord-numbered (omega arith))
 groupWords-numbered (suc (suc zero)) =
-    shown-numbered (tested groupWord twoGains 10) (λ w. first w ∷ second w ∷ []) packed (tested-numbered groupWord twoGains 10 groupWord-numbered (omega arith))
+    shown-numbered (tested grpgain twoGains 10) (λ w. first w ∷ second w ∷ []) packed (tested-numbered grpgain twoGains 10 groupWord-numbered (omega arith))
 groupWords-numbered (suc (suc (suc n))) =
-    shown-numbered (both groupWord (λ w. groupWords n)) (λ p. first (p .0) ∷ second (p .0) ∷ third (p .0) ∷ p .1) (λ gs. (packed gs, drop 3 gs))
-    (both-numbered groupWord (λ w. groupWords n) groupWord-numbered (λ w. groupWords-numbered n))
+    shown-numbered (both grpgain (λ w. groupWords n)) (λ p. first (p .0) ∷ second (p .0) ∷ third (p .0) ∷ p .1) (λ gs. (packed gs, drop 3 gs))
+    (both-numbered grpgain (λ w. groupWords n) groupWord-numbered (λ w. groupWords-numbered n))
 
 gainWords-numbered : (mode n : ℕ) → Refusing (gainWords mode n)
 gainWords-numbered mode n =
@@ -95,15 +96,16 @@ coded-numbered m g = go (eqb g 1)
         shown-numbered (both (number w) (behind w (largeBits m g))) (toCode w) (ofCode w)
         (both-numbered (number w) (behind w (largeBits m g)) (number-numbered w) (λ s. large (eqb s (tag w))))
 
-item-numbered : (b : Bin) → Refusing (item b)
+item-numbered : (b : Bin) → Refusing (item lenient b)
 item-numbered none = λ bs. tt
 item-numbered (book h) = shown-numbered (number (vqBits h)) index ofIndex (number-numbered (vqBits h))
 item-numbered (scalar h g) =
-    shown-numbered (each (λ (k : ℕ). coded (mantBits h) g) (replicate 6 0)) codes ofCodes
-    (each-numbered (λ (k : ℕ). coded (mantBits h) g) (λ k. coded-numbered (mantBits h) g) (replicate 6 0))
+    shown-numbered (each (λ (k : ℕ). lenient h g) (replicate 6 0)) codes ofCodes
+    (each-numbered (λ (k : ℕ). lenient h g) (λ k. coded-numbered (mantBits h) g) (replicate 6 0))
 
-pub field-numbered : (row : List ℕ) → Refusing (field row)
-field-numbered row =
-    both-numbered (number 2) (λ mode. both (gainWords mode (activeBins mode row)) (λ gs. each item (binsOf mode row gs))) (number-numbered 2)
-    (λ mode. both-numbered (gainWords mode (activeBins mode row)) (λ gs. each item (binsOf mode row gs)) (gainWords-numbered mode (activeBins mode row))
-    (λ gs. each-numbered item item-numbered (binsOf mode row gs)))
+pub field-numbered : (row : List ℕ) (start end : ℕ) → Refusing (field row start end)
+field-numbered row start end =
+    shown-numbered (both (number 2) (behindMode lenient row start end)) fromParts toParts
+    (both-numbered (number 2) (behindMode lenient row start end) (number-numbered 2)
+    (λ mode. both-numbered (gainWords mode (activeCount mode row start end)) (λ gs. each (item lenient) (binsOf mode gs row start end))
+    (gainWords-numbered mode (activeCount mode row start end)) (λ gs. each-numbered (item lenient) item-numbered (binsOf mode gs row start end))))

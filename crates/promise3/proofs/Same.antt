@@ -1,69 +1,60 @@
--- Two calls that find channels show the same exactly where the channels do. Assumes nothing.
-use Prim.Native.Nat.{ℕ, _+_, _-_}
+-- Two calls that find channels show the same exactly where the channels are the same. Assumes nothing.
+use Prim.Native.Nat.{ℕ}
 use mathlib.Core.Path.{_≡_, sym, ap, _∙_}
 use mathlib.Core.List.{List}
 use mathlib.Core.Logic.{_↔_}
-use native.Mathlib.Omega.{arith}
+use lib.IntN.{pos}
 use lib.ListN.{length, getD}
-use Rattle.field.specs.Field.{partOf, fieldBits}
-use Rattle.field.specs.Shown.{fieldAt, SameShown}
-use Rattle.field.proofs.Fields.{fields-same}
-use Rattle.promise3.specs.Promise.{Call, acceptedField, SameShown as SameAnswers}
-use Rattle.promise3.proofs.Places.{part-long, part-place, padded, same-gains}
-use Rattle.promise3.proofs.Calls.{Found, within, read-dec, answer-mode, answer-count, answer-gains, answer-bits, index-after, exacts-after}
+use Rattle.channel.specs.Field.{lenient, binAt, Channel}
+use Rattle.channel.specs.Shown.{exactsOf, indexOf, itemAt}
+use Rattle.channel.proofs.Laws.{lenient-laws}
+use Rattle.channel.proofs.Shown.{same-channel}
+use Rattle.channel.proofs.Fields.{fieldIn, fields-same}
+use Rattle.channel.specs.Shown.{fieldAt}
+use Rattle.reader.specs.Reading.{Call}
+use Rattle.promise3.specs.Promise.{acceptedField, SameShown}
+use Rattle.promise3.proofs.Places.{padded, same-gains}
+use Rattle.promise3.proofs.Calls.{Found, stands, ok, answer-mode, answer-count, answer-gains, answer-bits, index-after, exacts-after}
 
 module _ (row : List ℕ) (start end : ℕ) where
-  abbrev part : List ℕ
-  part = partOf row start end
-
-  field-is : (c : Call) (f : Found row start end c) → acceptedField row start end c ≡ fieldAt (c .src) (c .at) (fieldBits part (f .channel))
+  field-is : (c : Call) (f : Found row start end c) → acceptedField row start end c ≡ fieldIn lenient lenient-laws row start end (c .src) (c .at) (f .channel)
   field-is c f = ap (fieldAt (c .src) (c .at)) (answer-bits row start end c f)
 
   module _ (c c′ : Call) (f : Found row start end c) (f′ : Found row start end c′) where
-    long : length part ≡ end - start
-    long = let w = within row start end c f in part-long row start end (w .bins) (w .rows)
+    -- of the channel, what is compared at the bin k
+    abbrev indexIn : ℕ → Channel → ℕ
+    indexIn k d = indexOf (binAt (d .mode) (d .gains) row start k) (itemAt start d k)
 
-    to-calls : SameShown part (f .channel) (f′ .channel) → SameAnswers row start end c c′
-    to-calls s =
-        let n = long in
-        record {
-          mode = answer-mode row start end c f ∙ s .mode ∙ sym (answer-mode row start end c′ f′);
-          count = answer-count row start end c f ∙ ap length (s .gains) ∙ sym (answer-count row start end c′ f′);
-          gains = answer-gains row start end c f ∙ ap padded (s .gains) ∙ sym (answer-gains row start end c′ f′);
-          index = λ k l u a b.
-              let e = part-place row start end k l u in
-              index-after row start end c f k l u ∙ s .index (k - start) (omega arith) (omega arith) (omega arith) ∙ sym (index-after row start end c′ f′ k l u);
-          exacts = λ k l u a b j v.
-              let e = part-place row start end k l u in
-              exacts-after row start end c f k l u j v ∙ s .exacts (k - start) (omega arith) (omega arith) (omega arith) j v ∙ sym (exacts-after row start end c′ f′ k l u j v);
-        }
+    to-calls : f .channel ≡ f′ .channel → SameShown row start end c c′
+    to-calls s = record {
+      mode = answer-mode row start end c f ∙ ap (λ (d : Channel). d .mode) s ∙ sym (answer-mode row start end c′ f′);
+      count = answer-count row start end c f ∙ ap (λ (d : Channel). length (d .gains)) s ∙ sym (answer-count row start end c′ f′);
+      gains = answer-gains row start end c f ∙ ap (λ (d : Channel). padded (d .gains)) s ∙ sym (answer-gains row start end c′ f′);
+      index = λ k l u a b. index-after row start end c f k l u ∙ ap (indexIn k) s ∙ sym (index-after row start end c′ f′ k l u);
+      exacts = λ k l u a b j v.
+          exacts-after row start end c f k l u j v
+          ∙ ap (λ (d : Channel). getD (exactsOf (binAt (d .mode) (d .gains) row start k) (itemAt start d k)) j (pos 0)) s ∙ sym (exacts-after row start end c′ f′ k l u j v);
+    }
 
-    of-calls : SameAnswers row start end c c′ → SameShown part (f .channel) (f′ .channel)
+    of-calls : SameShown row start end c c′ → f .channel ≡ f′ .channel
     of-calls s =
-        let n = long in
+        let m : f .channel .mode ≡ f′ .channel .mode = sym (answer-mode row start end c f) ∙ s .mode ∙ answer-mode row start end c′ f′ in
+        let g =
+        same-gains (f .channel .gains) (f′ .channel .gains) (sym (answer-count row start end c f) ∙ s .count ∙ answer-count row start end c′ f′)
+        (sym (answer-gains row start end c f) ∙ s .gains ∙ answer-gains row start end c′ f′) in
+        same-channel lenient lenient-laws row start end (f .channel) (f′ .channel) (ok row start end c f) (ok row start end c′ f′) m g
+        (λ k l u.
+        let e : binAt (f′ .channel .mode) (f′ .channel .gains) row start k ≡ binAt (f .channel .mode) (f .channel .gains) row start k = cc in
         record {
-          mode = sym (answer-mode row start end c f) ∙ s .mode ∙ answer-mode row start end c′ f′;
-          gains =
-              same-gains (f .channel .1 .0) (f′ .channel .1 .0) (sym (answer-count row start end c f) ∙ s .count ∙ answer-count row start end c′ f′)
-              (sym (answer-gains row start end c f) ∙ s .gains ∙ answer-gains row start end c′ f′);
-          index = λ i u a b.
-              let k = start + i in
-              let o : k - start ≡ i = omega arith in
-              let h : getD row k 0 ≡ getD part i 0 = rw o at (sym (part-place row start end k (omega arith) (omega arith))) in
-              rw o at (sym (index-after row start end c f k (omega arith) (omega arith)) ∙ s .index k (omega arith) (omega arith) (omega arith) (omega arith)
-              ∙ index-after row start end c′ f′ k (omega arith) (omega arith));
-          exacts = λ i u a b j v.
-              let k = start + i in
-              let o : k - start ≡ i = omega arith in
-              let h : getD row k 0 ≡ getD part i 0 = rw o at (sym (part-place row start end k (omega arith) (omega arith))) in
-              rw o at (sym (exacts-after row start end c f k (omega arith) (omega arith) j v) ∙ s .exacts k (omega arith) (omega arith) (omega arith) (omega arith) j v
-              ∙ exacts-after row start end c′ f′ k (omega arith) (omega arith) j v);
-        }
+          index = λ a b. sym (index-after row start end c f k l u) ∙ s .index k l u a b ∙ index-after row start end c′ f′ k l u ∙ rw e;
+          exacts = λ a b j v. sym (exacts-after row start end c f k l u j v) ∙ s .exacts k l u a b j v ∙ exacts-after row start end c′ f′ k l u j v ∙ rw e;
+        })
 
-    pub found-same : (acceptedField row start end c ≡ acceptedField row start end c′) ↔ SameAnswers row start end c c′
+    pub found-same : (acceptedField row start end c ≡ acceptedField row start end c′) ↔ SameShown row start end c c′
     found-same =
         let e = field-is c f in
         let e′ = field-is c′ f′ in
         let s =
-        fields-same part (c .src) (c′ .src) (c .at) (c′ .at) (f .channel) (f′ .channel) (f .rest) (f′ .rest) (read-dec row start end c f) (read-dec row start end c′ f′) in
+        fields-same lenient lenient-laws row start end (c .src) (c′ .src) (c .at) (c′ .at) (f .channel) (f′ .channel) (f .rest) (f′ .rest) (stands row start end c f .is)
+        (stands row start end c′ f′ .is) in
         (λ q. to-calls (s .0 (sym e ∙ q ∙ e′)), λ q. e ∙ s .1 (of-calls q) ∙ sym e′)

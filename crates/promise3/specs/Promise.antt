@@ -1,25 +1,21 @@
--- What the words of promise 3 mean, over the answers of the public calls. Document 01, Words, the paragraph on demand 3. What number and
--- values an answer has, fathrugg's specs/Answers.antt says.
-use Prim.Native.Nat.{ℕ, _+_, _-_, _*_, _≤_, _<_}
+-- What the words of promise 3 mean, over the answers of the public calls. Document 01, Words, the paragraph on demand
+-- 3.
+use Prim.Native.Nat.{ℕ, _+_, _*_, _≤_, _<_}
 use mathlib.Core.Path.{_≡_}
 use mathlib.Core.Bool.{Bool, false}
 use mathlib.Core.List.{List}
-use lib.IntN.{ℤ, pos}
+use lib.IntN.{pos}
 use lib.ListN.{length, getD}
 use lib.Ieee.{Float, nan}
-use Rattle.bits.specs.Format.{Got}
+use Rattle.answers.specs.Answers.{sizeNumber, sizeValue}
 use Rattle.levels.specs.Component.{someTooLarge}
 use Rattle.levels.specs.Exact.{exactOf}
-use Rattle.field.specs.Field.{partOf, Channel}
-use Rattle.field.specs.Shown.{valuesShown, exactsShown, indicesShown, fieldAt}
+use Rattle.channel.specs.Row.{gainAt, sixOf}
+use Rattle.channel.specs.Shown.{fieldAt}
 use Rattle.books.specs.Books.{vqSearch}
-use Rattle.quantiser.specs.Quantise.{picked, quantised}
-use Rattle.planner.specs.Choice.{gainAt}
+use Rattle.quantiser.specs.Quantise.{picked, quantised, pickedNumber, pickedValue}
 use Rattle.planner.specs.declared.Plan.{Plan}
-use Rattle.writer.specs.Written.{sixOf}
-use Rattle.reader.specs.Reading.{channelRead, readAnswer, withShown}
-use Rattle.reader.specs.declared.ChannelRead.{ChannelRead}
-use Rattle.fathrugg.specs.Answers.{searchNumber, searchValue, pickedNumber, pickedValue}
+use Rattle.reader.specs.Reading.{Call, answerTo, valuesAfter, exactAfter, indicesAfter}
 
 -- row, bins and vectors are allowed: none of causes 1 to 5 holds of them
 pub record Allowed (row : List ℕ) (start end : ℕ) (x : List Float) : Type 0 where
@@ -30,40 +26,18 @@ pub record Allowed (row : List ℕ) (start end : ℕ) (x : List Float) : Type 0 
   pub known : (k : ℕ) → start ≤ k → k < end → getD row k 0 ≤ 19
   pub components : (k : ℕ) → start ≤ k → k < end → (getD row k 0 ≡ 0 → ⊥) → someTooLarge (sixOf x k) ≡ false
 
--- ---- a call of the channel reader: the bytes, the bit of its position, and the outputs before it
-pub record Call : Type 0 where
-  pub src : List ℕ
-  pub at : ℕ
-  pub values : List Float
-  pub exact : List ℤ
-  pub indices : List ℕ
-
--- for a row and bins: what it finds, what it answers, and the outputs after it, as the contract of read_aht_channel says
+-- ---- a call of the channel reader, for a row and bins
 module _ (row : List ℕ) (start end : ℕ) (c : Call) where
-  abbrev pub foundIn : Got Channel
-  foundIn = channelRead (c .src) (c .at) row start end (length (c .values)) (length (c .exact)) (length (c .indices))
-
-  abbrev pub answerTo : ChannelRead
-  answerTo = readAnswer (8 * length (c .src) - c .at) foundIn
-
-  abbrev pub valuesAfter : List Float
-  valuesAfter = withShown (valuesShown (partOf row start end)) (6 * start) (c .values) foundIn
-
-  abbrev pub exactAfter : List ℤ
-  exactAfter = withShown (exactsShown (partOf row start end)) (6 * start) (c .exact) foundIn
-
-  abbrev pub indicesAfter : List ℕ
-  indicesAfter = withShown (indicesShown (partOf row start end)) start (c .indices) foundIn
-
   -- the outputs are long enough
   abbrev pub LongEnough : Type 0
   LongEnough = (6 * end ≤ length (c .values)) × (6 * end ≤ length (c .exact)) × (end ≤ length (c .indices))
 
   -- a field that it accepts: the bits from its position on, as many as it says
   abbrev pub acceptedField : List Bool
-  acceptedField = fieldAt (c .src) (c .at) (answerTo .bits)
+  acceptedField = fieldAt (c .src) (c .at) (answerTo row start end c .bits)
 
--- the same mode, the same gains, the same book index in every book bin and the same six exact values in every scalar bin
+-- the same mode, the same gains, the same book index in every book bin and the same six exact values in every scalar
+-- bin
 pub record SameShown (row : List ℕ) (start end : ℕ) (c c′ : Call) : Type 0 where
   pub mode : answerTo row start end c .mode ≡ answerTo row start end c′ .mode
   pub count : answerTo row start end c .count ≡ answerTo row start end c′ .count
@@ -73,13 +47,14 @@ pub record SameShown (row : List ℕ) (start end : ℕ) (c c′ : Call) : Type 0
   pub exacts : (k : ℕ) → start ≤ k → k < end → 8 ≤ getD row k 0 → getD row k 0 ≤ 19 → (j : ℕ) → j < 6
       → getD (exactAfter row start end c) (6 * k + j) (pos 0) ≡ getD (exactAfter row start end c′) (6 * k + j) (pos 0)
 
--- the plan's mode and gains, the search's index in every book bin and the quantiser's values, f32 and exact, in every scalar bin
+-- the plan's mode and gains, the search's index in every book bin and the quantiser's values, f32 and exact, in every
+-- scalar bin
 pub record ShowsPlan (p : Plan) (row : List ℕ) (start end : ℕ) (x : List Float) (c : Call) : Type 0 where
   pub mode : answerTo row start end c .mode ≡ p .mode
   pub count : answerTo row start end c .count ≡ p .count
   pub gains : answerTo row start end c .gains ≡ p .gains
   pub index : (k : ℕ) → start ≤ k → k < end → 1 ≤ getD row k 0 → getD row k 0 ≤ 7
-      → let r = vqSearch (getD row k 0) (sixOf x k) in (searchNumber r ≡ 0) × (searchValue 0 r ≡ getD (indicesAfter row start end c) k 0)
+      → let r = vqSearch (getD row k 0) (sixOf x k) in (sizeNumber r ≡ 0) × (sizeValue 0 r ≡ getD (indicesAfter row start end c) k 0)
   pub values : (k : ℕ) → start ≤ k → k < end → 8 ≤ getD row k 0 → getD row k 0 ≤ 19 → (j : ℕ) → j < 6
       → let h = getD row k 0 in let g = gainAt (p .mode) (p .gains) row start k in let y = getD x (6 * k + j) nan in
       (pickedNumber (quantised h g y) ≡ 0)

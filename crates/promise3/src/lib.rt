@@ -1,17 +1,15 @@
-// Promise 3: a channel planned, written and read back. The theorems stand in proofs/Promise.antt, in the order of its sentences.
+// Promise 3: a channel planned, written and read back. The theorems stand in proofs/Promise.antt, in the order of its
+// sentences.
 ghost use mathlib.Core.Path.{_≡_};
-ghost use Prim.Native.Nat.{_*_, _≤_};
-ghost use lib.ListN.{length};
-ghost use Rattle.bits.specs.Bits.{bitAt, bytesWith, splice};
-ghost use Rattle.field.specs.Field.{partOf};
-ghost use Rattle.field.specs.Shown.{valuesShown, exactsShown, indicesShown};
-ghost use Rattle.planner.specs.Planning.{noPlan, planOf};
-ghost use Rattle.writer.specs.Written.{fieldOf};
-ghost use Rattle.promise3.specs.Trip.{lower, tripCause, roundTrip, plannedChannel, after};
+ghost use Prim.Native.Nat.{_≤_};
+ghost use Rattle.bits.specs.Bits.{bitAt};
+ghost use Rattle.planner.specs.Planning.{noPlan};
+ghost use Rattle.reader.specs.Reading.{call};
+ghost use Rattle.promise3.specs.Trip.{lower, roundTrip, tripAnswer, tripOut, tripValues, tripExact, tripIndices};
 use bits::BitPos;
-use bits::BitWrite;
 use planner::Plan;
 use reader::ChannelRead;
+use writer::ChannelWrite;
 
 // 0, the plan and what the reader shows of the field written from it; or the number of the refusal and zeros.
 pub struct RoundTrip {
@@ -41,7 +39,7 @@ fn refuse(n: u8) -> RoundTrip
     requires { ⌜ 1 ≤ n ⌝ }
     ensures { λ r. ⌜ r ≡ roundTrip n noPlan ⌝ }
 {
-    let gains = planner::no_gains();
+    let gains = channel::no_gains();
     RoundTrip {
         refusal: n,
         plan: Plan {
@@ -60,9 +58,9 @@ fn refuse(n: u8) -> RoundTrip
     }
 }
 
-// Plans the bins start to end - 1, writes the field of the plan to the output from the position on, and reads it back there. What
-// the reader shows is the plan, with the search's index, or the quantiser's values, in each bin. Refuses with 1 to 5, then 7; a
-// refusal leaves every buffer as it was.
+// Plans the bins start to end - 1, writes the field of the plan to the output from the position on, and reads it back
+// there. What the reader shows is the plan, with the search's index, or the quantiser's values, in each bin. Refuses
+// with 1 to 5, then 7; a refusal leaves every buffer as it was.
 pub fn plan_write_read(
     hebap: &[u8],
     start: usize,
@@ -74,13 +72,19 @@ pub fn plan_write_read(
     exact: &mut [i32],
     indices: &mut [u16],
 ) -> RoundTrip
-    ensures { λ r. ⌜ r ≡ roundTrip (tripCause (now (hebap .entry)) start end (now (x .entry)) (length (now (values .entry))) (length (now (exact .entry))) (length (now (indices .entry))) (8 * length (now (out .entry))) (bitAt pos)) (planOf (now (hebap .entry)) (now (x .entry)) start end) ⌝ }
-    ensures { λ r. ⌜ now (out .exit) ≡ after (r .refusal) (bytesWith (now (out .entry)) (bitAt pos) (fieldOf (planOf (now (hebap .entry)) (now (x .entry)) start end) (now (hebap .entry)) start end (now (x .entry)))) (now (out .entry)) ⌝ }
-    ensures { λ r. ⌜ now (values .exit) ≡ after (r .refusal) (splice (now (values .entry)) (6 * start) (valuesShown (partOf (now (hebap .entry)) start end) (plannedChannel (now (hebap .entry)) (now (x .entry)) start end))) (now (values .entry)) ⌝ }
-    ensures { λ r. ⌜ now (exact .exit) ≡ after (r .refusal) (splice (now (exact .entry)) (6 * start) (exactsShown (partOf (now (hebap .entry)) start end) (plannedChannel (now (hebap .entry)) (now (x .entry)) start end))) (now (exact .entry)) ⌝ }
-    ensures { λ r. ⌜ now (indices .exit) ≡ after (r .refusal) (splice (now (indices .entry)) start (indicesShown (partOf (now (hebap .entry)) start end) (plannedChannel (now (hebap .entry)) (now (x .entry)) start end))) (now (indices .entry)) ⌝ }
+    ensures { λ r. ⌜ r ≡ tripAnswer (now (hebap .entry)) start end (now (x .entry))
+        (call (now (out .entry)) (bitAt pos) (now (values .entry)) (now (exact .entry)) (now (indices .entry))) ⌝ }
+    ensures { λ r. ⌜ now (out .exit) ≡ tripOut (now (hebap .entry)) start end (now (x .entry))
+        (call (now (out .entry)) (bitAt pos) (now (values .entry)) (now (exact .entry)) (now (indices .entry))) ⌝ }
+    ensures { λ r. ⌜ now (values .exit) ≡ tripValues (now (hebap .entry)) start end (now (x .entry))
+        (call (now (out .entry)) (bitAt pos) (now (values .entry)) (now (exact .entry)) (now (indices .entry))) ⌝ }
+    ensures { λ r. ⌜ now (exact .exit) ≡ tripExact (now (hebap .entry)) start end (now (x .entry))
+        (call (now (out .entry)) (bitAt pos) (now (values .entry)) (now (exact .entry)) (now (indices .entry))) ⌝ }
+    ensures { λ r. ⌜ now (indices .exit) ≡ tripIndices (now (hebap .entry)) start end (now (x .entry))
+        (call (now (out .entry)) (bitAt pos) (now (values .entry)) (now (exact .entry)) (now (indices .entry))) ⌝ }
 {
-    let asked = reader::read_cause(hebap, start, end, values.len(), exact.len(), indices.len());
+    let short = reader::too_short(end, values.len(), exact.len(), indices.len());
+    let asked = channel::row_cause(hebap, start, end, short);
     let k = lowest(asked, planner::cause(hebap, start, end, x));
     if k != 0 {
         return refuse(k);
@@ -89,10 +93,10 @@ pub fn plan_write_read(
     let plan = planned.plan;
     let w = writer::write_aht_channel(plan, hebap, start, end, x, out, pos);
     match w {
-        BitWrite::Refused(n) => {
+        ChannelWrite::Refused(n) => {
             return refuse(n);
         },
-        BitWrite::Done(q) => {
+        ChannelWrite::Done(q) => {
             let shown = reader::read_aht_channel(
                 out,
                 pos,

@@ -1,6 +1,5 @@
 -- A bin, a component at a time: the values with their bits and errors. Assumes nothing.
 use Prim.Native.Nat.{ℕ, _+_, _*_, _≤_, _<_}
-use mathlib.Core.Bool.{Bool, true, false, cond}
 use mathlib.Core.List.{List, [], _∷_, map-append}
 use mathlib.Core.Path.{_≡_, refl, sym, ap, _∙_}
 use native.Mathlib.Numerals.{add-one}
@@ -14,7 +13,7 @@ use Rattle.tables.specs.Tables.{mantBits}
 use Rattle.levels.specs.Codes.{smallBits, largeBits, codeBits}
 use Rattle.levels.specs.Value.{f0, valueIn}
 use Rattle.levels.specs.declared.Code.{Code}
-use Rattle.levels.proofs.Signed.{small-width, large-width}
+use Rattle.levels.proofs.Signed.{by-test, small-width, large-width}
 use Rattle.quantiser.specs.Quantise.{picked, codeLevel, binValues, codesBits, errorFrom}
 use Rattle.quantiser.specs.declared.CodeLevel.{CodeLevel}
 
@@ -22,15 +21,11 @@ use Rattle.quantiser.specs.declared.CodeLevel.{CodeLevel}
 module _ (h g : ℕ) (l : 8 ≤ h) (u : h ≤ 19) where
   code-most : (c : Code) → codeBits (mantBits h) g c ≤ 32
   code-most (Code.Small s) = let m = mant-bits h l u in let w = small-width (mantBits h) g (m .0) (m .1) in omega arith
-  code-most (Code.Large n) = go (eqb g 1)
-    where
-      go : (t : Bool) → cond t (mantBits h) (smallBits (mantBits h) g + largeBits (mantBits h) g) ≤ 32
-      go true = let m = mant-bits h l u in omega arith
-      go false =
-          let m = mant-bits h l u in
-          let a = small-width (mantBits h) g (m .0) (m .1) in
-          let b = large-width (mantBits h) g (m .0) (m .1) in
-          omega arith
+  code-most (Code.Large n) =
+      let m = mant-bits h l u in
+      let a = small-width (mantBits h) g (m .0) (m .1) in
+      let b = large-width (mantBits h) g (m .0) (m .1) in
+      by-test (λ (w : ℕ). w ≤ 32) (eqb g 1) (mantBits h) (smallBits (mantBits h) g + largeBits (mantBits h) g) (omega arith) (omega arith)
 
   pub bits-most : (xs : List Float) → codesBits h g xs ≤ 32 * length xs
   unfolding codesBits

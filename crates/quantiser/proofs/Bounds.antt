@@ -1,39 +1,26 @@
 -- How large the estimates and the levels that are picked get. Assumes nothing.
 use Prim.Native.Nat.{ℕ, _-_, _^_, _≤_, _<_}
-use mathlib.Core.Bool.{Bool, true, false, cond}
-use mathlib.Core.Path.{_≡_, refl}
 use native.Mathlib.Omega.{arith}
-use borrow.Author.Tests.{ltb-true}
-use lib.Dec.{ltb, lit<}
+use lib.Dec.{lit<}
 use lib.Ieee.{Float, binary32, sub, div, lt, le}
 use lib.IntN.{ℤ, pos, negsuc, negℤ, natAbs, _+ℤ_}
 use lib.Pow.{pow-pos}
 use lib.Signed.{mag}
 use Rattle.levels.specs.Value.{f0, f1, power, gaqRemap}
+use Rattle.levels.proofs.Signed.{by-test}
 use Rattle.levels.proofs.Sizes.{mag-abs}
-use Rattle.quantiser.specs.Quantise.{clampZ, minZ, valueAt, estOne, bestOne, slopeAt, estLarge, bestLarge}
+use Rattle.quantiser.specs.Quantise.{clampZ, valueAt, estOne, bestOne, slopeAt, estLarge, bestLarge}
 use Rattle.quantiser.specs.Round.{roundAway}
 use Rattle.quantiser.proofs.Ints.{top-under, bottom-under, clamp-small, clamp-abs}
 use Rattle.quantiser.proofs.Probing.{best-keeps}
 use Rattle.quantiser.proofs.Signs.{round-small}
-
-pub first-small : (n : ℕ) → mag (minZ (pos 1) (pos (2 ^ n - 1))) < 2 ^ 24
-first-small n = go (ltb (2 ^ n - 1) 1) refl
-  where
-    go : (t : Bool) → ltb (2 ^ n - 1) 1 ≡ t → mag (cond t (pos (2 ^ n - 1)) (pos 1)) < 2 ^ 24
-    go true e = let l = ltb-true (2 ^ n - 1) 1 e in omega arith
-    go false e = lit< tt
-
-by-test : (t : Bool) (y z : ℤ) {b : ℕ} → mag y < b → mag z < b → mag (cond t y z) < b
-by-test true y z l u = l
-by-test false y z l u = u
 
 -- ---- Gk 1: from -(2 ^ n - 1) to 2 ^ n - 1
 pub est-one-small : (h n : ℕ) (x : Float) → mag (estOne h n x) < 2 ^ 40
 unfolding estOne
 est-one-small h n x =
     let unit = gaqRemap h 1 (div binary32 f1 (power n)) in
-    by-test (lt f0 unit) (roundAway (div binary32 x unit)) (pos 0) (let l = round-small (div binary32 x unit) in omega arith) (lit< tt)
+    by-test (λ (z : ℤ). mag z < 2 ^ 40) (lt f0 unit) (roundAway (div binary32 x unit)) (pos 0) (let l = round-small (div binary32 x unit) in omega arith) (lit< tt)
 
 pub best-one-abs : (h n : ℕ) (x : Float) → natAbs (bestOne h n x) ≤ 2 ^ n - 1
 unfolding bestOne
@@ -50,7 +37,7 @@ unfolding estLarge
 est-large-small h g n x =
     let up = roundAway (div binary32 (sub binary32 x (valueAt h g n (pos 0))) (slopeAt h g n)) in
     let down = negsuc 0 +ℤ roundAway (div binary32 (sub binary32 x (valueAt h g n (negsuc 0))) (slopeAt h g n)) in
-    by-test (le f0 x) (clampZ (pos 0) (pos (2 ^ n - 1)) up) (clampZ (negℤ (pos (2 ^ n))) (negsuc 0) down)
+    by-test (λ (z : ℤ). mag z < 2 ^ n) (le f0 x) (clampZ (pos 0) (pos (2 ^ n - 1)) up) (clampZ (negℤ (pos (2 ^ n))) (negsuc 0) down)
     (clamp-small (pos 0) (pos (2 ^ n - 1)) (2 ^ n) (pow-pos n) (top-under n) up)
     (clamp-small (negℤ (pos (2 ^ n))) (negsuc 0) (2 ^ n) (bottom-under n) (pow-pos n) down)
 

@@ -2,7 +2,7 @@
 use Prim.Native.Nat.{ℕ, zero, suc, min, _+_, _-_, _*_, _/_, _%_, _^_, _≤_, _<_}
 use mathlib.Core.Bool.{Bool, true, false, not, _&&_, true≢false}
 use mathlib.Core.Path.{_≡_, sym, ap, _∙_}
-use native.Mathlib.Nat.{le-trans, le-of-eq, lt-of-le-of-lt, not-le-of-lt, mul-pos, mul-assoc, mul-right-comm, mul-one, div-div-eq-div-mul, div-lt-iff-lt-mul, lt-of-mul-lt-mul-right, lt-of-lt-of-le, le-of-suc-le-suc, add-mul, mul-add, add-div-right, mul-lt-mul-of-pos-right, mul-le-mul-right}
+use native.Mathlib.Nat.{le-trans, le-of-eq, lt-of-le-of-lt, not-le-of-lt, mul-pos, mul-assoc, mul-right-comm, mul-one, one-mul, div-div-eq-div-mul, div-lt-iff-lt-mul, lt-of-mul-lt-mul-right, lt-of-lt-of-le, le-of-suc-le-suc, add-mul, mul-add, add-div-right, mul-lt-mul-of-pos-right, mul-le-mul-right}
 use native.Mathlib.Omega.{arith}
 use lib.Dec.{T, leb, ltb, eqb, leb→le, ltb→lt, lt→ltb, nleb→lt, lit≤, lit<}
 use lib.Ieee.{Float, nan, inf, fin, binary32, up, down, round, add, lt, fits, toUnsigned}
@@ -13,7 +13,7 @@ use lib.IntN.{ℤ, pos, negsuc}
 use lib.Pow.{pow-pos, pow-lt, pow-add}
 use Rattle.quantiser.specs.Round.{halfUp, roundMag}
 
-exp-le : (i j : ℕ) → 2 ^ i ≤ 2 ^ j → i ≤ j
+pub exp-le : (i j : ℕ) → 2 ^ i ≤ 2 ^ j → i ≤ j
 exp-le i j h = go (leb i j) (leb→le i j) (nleb→lt i j)
   where
     go : (b : Bool) → (T b → i ≤ j) → (T (not b) → j < i) → i ≤ j
@@ -31,18 +31,18 @@ fits-digits s m e t =
     let t1 = and-l (A && B && C) D t in
     (ltb→lt (suc m) (2 ^ 24) (and-r A B (and-l (A && B) C t1)), leb→le (down e) (2 ^ 149) (and-r (A && B) C t1))
 
--- 2 ^ e is 2 ^ (at e) units of 2 ^ -150
-at : ℤ → ℕ
-at (pos k) = k + 150
-at (negsuc k) = 150 - suc k
+-- 2 ^ e is 2 ^ (at n e) units of 2 ^ -n
+pub at : ℕ → ℤ → ℕ
+at n (pos k) = k + n
+at n (negsuc k) = n - suc k
 
-at-is : (e : ℤ) → down e ≤ 2 ^ 149 → up e * 2 ^ 150 ≡ 2 ^ at e * down e
+pub at-is : (n : ℕ) → 149 ≤ n → (e : ℤ) → down e ≤ 2 ^ 149 → up e * 2 ^ n ≡ 2 ^ at n e * down e
 unfolding at
-at-is (pos k) h = sym (pow-add 2 k 150) ∙ sym (mul-one (2 ^ (k + 150)))
-at-is (negsuc k) h =
+at-is n g (pos k) h = sym (pow-add 2 k n) ∙ sym (mul-one (2 ^ (k + n)))
+at-is n g (negsuc k) h =
     let l : suc k ≤ 149 = exp-le (suc k) 149 h in
-    let b : 150 - suc k + suc k ≡ 150 = omega arith in
-    sym (ap (λ (n : ℕ). 2 ^ n) b) ∙ pow-add 2 (150 - suc k) (suc k)
+    let b : n - suc k + suc k ≡ n = omega arith in
+    one-mul (2 ^ n) ∙ sym (ap (λ (n : ℕ). 2 ^ n) b) ∙ pow-add 2 (n - suc k) (suc k)
 
 -- the sum of two equal values, as a fraction
 twice : (m : ℕ) (e : ℤ) → suc m < 2 ^ 24 → down e ≤ 2 ^ 149 → suc m * up e < 2 ^ 31 * down e
@@ -52,12 +52,12 @@ twice m e small fine bound =
     let a = q * up e in
     let d = down e in
     let D : 0 < d = down-pos e in
-    let is : up e * 2 ^ 150 ≡ 2 ^ at e * d = at-is e fine in
-    -- a * 2 ^ 150 = q * 2 ^ at e * d
-    let units : a * 2 ^ 150 ≡ q * 2 ^ at e * d = mul-assoc q (up e) (2 ^ 150) ∙ ap (λ (z : ℕ). q * z) is ∙ sym (mul-assoc q (2 ^ at e) d) in
-    let under : q * 2 ^ at e < 2 ^ 277 = lt-of-mul-lt-mul-right d (lt-of-le-of-lt (le-of-eq (sym units)) (lt-of-lt-of-le (mul-lt-mul-of-pos-right bound (pow-pos 150)) (le-trans (le-of-eq (mul-right-comm (2 ^ 31) d (2 ^ 150))) (mul-le-mul-right d (lit≤ {m = 2 ^ 181} {n = 2 ^ 277} tt))))) in
-    round-exact binary32 false (a * d + a * d) (d * d) q (at e) (mul-pos D D) small under
-    (let x : a * d * 2 ^ 150 ≡ q * 2 ^ at e * (d * d) = mul-right-comm a d (2 ^ 150) ∙ ap (λ (z : ℕ). z * d) units ∙ mul-assoc (q * 2 ^ at e) d d in
+    let is : up e * 2 ^ 150 ≡ 2 ^ at 150 e * d = at-is 150 (lit≤ {m = 149} {n = 150} tt) e fine in
+    -- a * 2 ^ 150 = q * 2 ^ at 150 e * d
+    let units : a * 2 ^ 150 ≡ q * 2 ^ at 150 e * d = mul-assoc q (up e) (2 ^ 150) ∙ ap (λ (z : ℕ). q * z) is ∙ sym (mul-assoc q (2 ^ at 150 e) d) in
+    let under : q * 2 ^ at 150 e < 2 ^ 277 = lt-of-mul-lt-mul-right d (lt-of-le-of-lt (le-of-eq (sym units)) (lt-of-lt-of-le (mul-lt-mul-of-pos-right bound (pow-pos 150)) (le-trans (le-of-eq (mul-right-comm (2 ^ 31) d (2 ^ 150))) (mul-le-mul-right d (lit≤ {m = 2 ^ 181} {n = 2 ^ 277} tt))))) in
+    round-exact binary32 false (a * d + a * d) (d * d) q (at 150 e) (mul-pos D D) small under
+    (let x : a * d * 2 ^ 150 ≡ q * 2 ^ at 150 e * (d * d) = mul-right-comm a d (2 ^ 150) ∙ ap (λ (z : ℕ). z * d) units ∙ mul-assoc (q * 2 ^ at 150 e) d d in
     let y : (a * d + a * d) * 2 ^ 149 ≡ a * d * 2 ^ 150 = add-mul (a * d) (a * d) (2 ^ 149) ∙ sym (mul-add (a * d) (2 ^ 149) (2 ^ 149)) in
     y ∙ x)
 

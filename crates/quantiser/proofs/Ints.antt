@@ -13,8 +13,9 @@ use mir.Syntax.{w32, w64}
 use mir.Val.{SFits, Fits, toZ, ofZ}
 use mir.ValLaws.{toZ-ofZ, toZ-pos}
 use Rattle.levels.specs.Codes.{signed}
-use Rattle.levels.proofs.Signed.{back, two-to-cap, halves, signed-low, signed-high}
-use Rattle.levels.proofs.Sizes.{mag-abs}
+use Rattle.levels.proofs.Signed.{back, pow2-cap, halves, signed-low, signed-high}
+use Rattle.levels.proofs.Sizes.{mag-abs, abs-neg}
+use Rattle.bits.proofs.Tests.{both}
 use Rattle.quantiser.specs.Quantise.{clampZ, toBits, isSmall, allowed}
 
 -- ---- passed on, and read back
@@ -75,7 +76,7 @@ minus-back n h e = toZ-ofZ w64 (minus n) (minus-fits n h) ∙ minus-is n h ∙ a
 
 -- ---- powers of two
 pub power-range : (n t : ℕ) → n ≤ 16 → t ≡ 2 ^ n → (1 ≤ t) × (t ≤ 65536)
-power-range n t h e = rw e (pow-pos n, two-to-cap n h)
+power-range n t h e = rw e (pow-pos n, pow2-cap n h)
 
 pub top-under : (n : ℕ) → mag (pos (2 ^ n - 1)) < 2 ^ n
 top-under n = let p = pow-pos n in omega arith
@@ -87,7 +88,7 @@ pub bottom-under : (n : ℕ) → mag (negℤ (pos (2 ^ n))) < 2 ^ n
 bottom-under n = neg-under (2 ^ n) (2 ^ n) (omega arith) (pow-pos n)
 
 pub held-24 : (n : ℕ) (z : ℤ) {y : ℤ} → n ≤ 16 → mag z < 2 ^ 63 → z ≡ y → mag y < 2 ^ n → mag (held z) < 2 ^ 24
-held-24 n z h f e l = let c = two-to-cap n h in held-under z (2 ^ 24) f e (omega arith)
+held-24 n z h f e l = let c = pow2-cap n h in held-under z (2 ^ 24) f e (omega arith)
 
 -- ---- held to a range
 module _ (lo hi : ℤ) where
@@ -109,10 +110,6 @@ between (negsuc x) y (negsuc w) p q u v = let l = ltb-false x w u in omega arith
 pub clamp-small : (lo hi : ℤ) (b : ℕ) → mag lo < b → mag hi < b → (z : ℤ) → mag (clampZ lo hi z) < b
 clamp-small lo hi b p q = clamp-keeps lo hi (λ z. mag z < b) p q (λ z. between lo hi z p q)
 
-abs-neg : (n : ℕ) → natAbs (negℤ (pos n)) ≤ n
-abs-neg zero = omega arith
-abs-neg (suc n) = omega arith
-
 between-abs : (p : ℕ) (w : ℤ) → ltZ w (negℤ (pos p)) ≡ false → ltZ (pos p) w ≡ false → natAbs w ≤ p
 between-abs p (pos w) u v = ltb-false p w v
 between-abs zero (negsuc w) u v = absurd (true≢false u)
@@ -120,16 +117,12 @@ between-abs (suc p) (negsuc w) u v = let l = ltb-false p w u in omega arith
 
 -- from -p to p
 pub clamp-abs : (p : ℕ) (z : ℤ) → natAbs (clampZ (negℤ (pos p)) (pos p) z) ≤ p
-clamp-abs p = clamp-keeps (negℤ (pos p)) (pos p) (λ z. natAbs z ≤ p) (abs-neg p) (omega arith) (between-abs p)
+clamp-abs p = clamp-keeps (negℤ (pos p)) (pos p) (λ z. natAbs z ≤ p) (rw (abs-neg p) (omega arith)) (omega arith) (between-abs p)
 
 -- ---- which hebap and Gk
-and-both : (a b : Bool) → a && b ≡ true → (a ≡ true) × (b ≡ true)
-and-both true b h = (refl, h)
-and-both false b h = absurd (true≢false (sym h))
-
 pub allowed-range : (h g : ℕ) → allowed h g ≡ true → (8 ≤ h) × (h ≤ 19)
 allowed-range h g e =
-    let a = and-both (leb 8 h) (leb h 19) (and-both (leb 8 h && leb h 19) _ e .0) in
+    let a = both (leb 8 h) (leb h 19) (both (leb 8 h && leb h 19) _ e .0) in
     (leb-true 8 h (a .0), leb-true h 19 (a .1))
 
 -- ---- small codes
@@ -139,7 +132,7 @@ inside zero (negsuc k) l u = absurd (true≢false (sym l))
 inside (suc p) (negsuc k) l u = let z = ltb-true k p l in omega arith
 
 pub small-abs : (b : ℕ) (s : ℤ) → isSmall b s ≡ true → natAbs s < 2 ^ (b - 1)
-small-abs b s h = let p = and-both (ltZ (negℤ (pos (2 ^ (b - 1)))) s) (ltZ s (pos (2 ^ (b - 1)))) h in inside (2 ^ (b - 1)) s (p .0) (p .1)
+small-abs b s h = let p = both (ltZ (negℤ (pos (2 ^ (b - 1)))) s) (ltZ s (pos (2 ^ (b - 1)))) h in inside (2 ^ (b - 1)) s (p .0) (p .1)
 
 pub small-mag : (b : ℕ) (s : ℤ) → isSmall b s ≡ true → mag s < 2 ^ b
 small-mag b s h = let a = small-abs b s h in let m = mag-abs s in let p = pow-mono {i = b - 1} {j = b} (omega arith) in omega arith
@@ -177,7 +170,7 @@ pub record InBits (w : ℕ) (v z : ℤ) : Type 0 where
 in-bits : (w k : ℕ) (v : ℤ) → w ≤ 16 → k ≡ toBits w v → InBits w v (pos k)
 in-bits w k v h e =
     let b = bits-under w v in
-    let c = two-to-cap w h in
+    let c = pow2-cap w h in
     let f : SFits w64 (pos k) = record { sfits = omega arith } in
     let same = toZ-ofZ w64 (pos k) f in
     record { sum-fits = f; cast = rw same (tt, record { fits = omega arith }); right = rw same e }
@@ -192,7 +185,7 @@ in-bits-above w v h l f t = go v l (rw (toZ-ofZ w64 v f) at t)
 -- 2 ^ w + v, for a v below 0
 pub in-bits-below : (w p : ℕ) (v : ℤ) → w ≤ 16 → p ≡ 2 ^ w → mag v < 2 ^ w → SFits w64 v → ltZ (held v) (pos 0) ≡ true → InBits w v (toZ w64 p +ℤ held v)
 in-bits-below w p v h e l f t =
-    let c = two-to-cap w h in
+    let c = pow2-cap w h in
     rw (toZ-ofZ w64 v f, cast-is p (omega arith) e) (go v l (rw (toZ-ofZ w64 v f) at t))
   where
     go : (y : ℤ) → mag y < 2 ^ w → ltZ y (pos 0) ≡ true → InBits w y (pos (2 ^ w) +ℤ y)

@@ -1,4 +1,5 @@
--- quantise_scalar and quantise_bin of the Rust, operation by operation. Document 01, Quantiser.
+-- quantise_scalar and quantise_bin of the Rust, operation by operation. Document 01, Quantiser; the codes are those of
+-- ATSC A/52 Annex E, 3.4.4.2.
 use Prim.Native.Nat.{ℕ, suc, _+_, _-_, _%_, _^_}
 use mathlib.Core.Bool.{Bool, false, cond, _||_, _&&_}
 use mathlib.Core.List.{List, [], _∷_, map}
@@ -10,7 +11,7 @@ use lib.Ieee.{Float, nan, inf, fin, binary32, ofBits, add, sub, mul, div, lt, le
 use Rattle.tables.specs.Tables.{mantBits}
 use Rattle.levels.specs.declared.Code.{Code}
 use Rattle.levels.specs.declared.Level.{Level}
-use Rattle.levels.specs.Codes.{smallBits, largeBits, codeBits}
+use Rattle.levels.specs.Codes.{largeOf, codeOf, smallBits, largeBits, codeBits}
 use Rattle.levels.specs.Component.{tooLarge, someTooLarge}
 use Rattle.levels.specs.Value.{f0, f1, power, gaqRemap, divided, valueIn}
 use Rattle.quantiser.specs.Round.{roundAway}
@@ -18,6 +19,7 @@ use Rattle.quantiser.specs.declared.Best.{Best}
 use Rattle.quantiser.specs.declared.CodeLevel.{CodeLevel}
 use Rattle.quantiser.specs.declared.PickResult.{PickResult}
 use Rattle.quantiser.specs.declared.QuantisedBin.{QuantisedBin}
+use Rattle.answers.specs.Causes as cause
 
 -- ---- numbers
 -- 1e-9 and f32::INFINITY, by their bit patterns
@@ -54,7 +56,7 @@ maxF a b = cond (lt a b) b (cond (isNan a) b a)
 unfoldable pub valueAt : ℕ → ℕ → ℕ → ℤ → Float
 valueAt h g n k = gaqRemap h g (divided n k)
 
--- one probe: z, held to the range, takes the place of the best so far where its error is less
+-- one probe: z, clamped to the range, takes the place of the best so far where its error is less
 unfoldable pub probed : ℕ → ℕ → ℕ → ℤ → ℤ → Float → ℤ → Best → Best
 probed h g n lo hi x z b =
     let k = clampZ lo hi z in
@@ -97,17 +99,15 @@ abbrev pub isSmall : ℕ → ℤ → Bool
 isSmall b s = ltZ (negℤ (pos (2 ^ (b - 1)))) s && ltZ s (pos (2 ^ (b - 1)))
 
 -- ---- the code that is picked for x, and the f32 that comes with it
-unfoldable pub oneCode : ℕ → Float → Code × Level
-oneCode h x =
-    let m = mantBits h in
-    let k = bestOne h (m - 1) x in
-    (Code.Large (toBits m k), Level.Large (valueAt h 1 (m - 1) k))
+-- the level k as a large code of l bits
+abbrev pub largeLevel : ℕ → ℕ → ℕ → ℤ → Code × Level
+largeLevel h g l k = (Code.Large (toBits l k), Level.Large (valueAt h g (l - 1) k))
 
--- a large code of l bits
+unfoldable pub oneCode : ℕ → Float → Code × Level
+oneCode h x = largeLevel h 1 (mantBits h) (bestOne h (mantBits h - 1) x)
+
 unfoldable pub largeCode : ℕ → ℕ → ℕ → Float → Code × Level
-largeCode h g l x =
-    let k = bestLarge h g (l - 1) x in
-    (Code.Large (toBits l k), Level.Large (valueAt h g (l - 1) k))
+largeCode h g l x = largeLevel h g l (bestLarge h g (l - 1) x)
 
 -- small codes of b bits, large ones of l bits, where 2 ^ n is the small codes' whole scale
 unfoldable pub taggedCode : ℕ → ℕ → ℕ → ℕ → ℕ → Float → Code × Level
@@ -136,8 +136,25 @@ allowed h g = leb 8 h && leb h 19 && (eqb g 1 || leb h 16 && (eqb g 2 || eqb g 4
 unfoldable pub quantised : ℕ → ℕ → Float → PickResult
 quantised h g x =
     cond (allowed h g)
-    (cond (tooLarge x) (PickResult.Refused 5) (PickResult.Picked (picked h g x .0) (picked h g x .1)))
-    (PickResult.Refused 11)
+    (cond (tooLarge x) (PickResult.Refused cause.component) (PickResult.Picked (picked h g x .0) (picked h g x .1)))
+    (PickResult.Refused cause.noQuantiser)
+
+-- its number, the kind and the bits of the code, and its f32; what stood there before where it refuses
+abbrev pub pickedNumber : PickResult → ℕ
+pickedNumber (PickResult.Picked c l) = 0
+pickedNumber (PickResult.Refused n) = n
+
+abbrev pub pickedLarge : ℕ → PickResult → ℕ
+pickedLarge v (PickResult.Picked c l) = largeOf c
+pickedLarge v (PickResult.Refused n) = v
+
+abbrev pub pickedCode : ℕ → PickResult → ℕ
+pickedCode v (PickResult.Picked c l) = codeOf c
+pickedCode v (PickResult.Refused n) = v
+
+abbrev pub pickedValue : Float → PickResult → Float
+pickedValue v (PickResult.Picked c l) = valueIn l
+pickedValue v (PickResult.Refused n) = v
 
 -- ---- quantise_bin: the six values, their bits and the sum of the squared errors, in order
 abbrev pub binValues : ℕ → ℕ → List Float → List Float
@@ -153,12 +170,12 @@ errorFrom h g err (x ∷ xs) =
     let d = sub binary32 (valueIn (picked h g x .1)) x in
     errorFrom h g (add binary32 err (mul binary32 d d)) xs
 
-unfoldable pub binOf : ℕ → ℕ → List Float → QuantisedBin
-binOf h g xs = record { refusal = 0; values = binValues h g xs; bits = codesBits h g xs; err = errorFrom h g f0 xs }
+unfoldable pub binPicked : ℕ → ℕ → List Float → QuantisedBin
+binPicked h g xs = record { refusal = 0; values = binValues h g xs; bits = codesBits h g xs; err = errorFrom h g f0 xs }
 
 -- the answer of a refusal
 abbrev pub noBin : ℕ → QuantisedBin
 noBin n = record { refusal = n; values = replicate 6 f0; bits = 0; err = f0 }
 
 unfoldable pub quantisedBin : ℕ → ℕ → List Float → QuantisedBin
-quantisedBin h g xs = cond (allowed h g) (cond (someTooLarge xs) (noBin 5) (binOf h g xs)) (noBin 11)
+quantisedBin h g xs = cond (allowed h g) (cond (someTooLarge xs) (noBin cause.component) (binPicked h g xs)) (noBin cause.noQuantiser)

@@ -14,7 +14,7 @@ roundMag nan = 0
 roundMag (inf s) = 2147483648
 roundMag (fin s m e) = min (halfUp (m * up e) (down e)) 2147483648
 
--- x rounded, halves away from zero, held to -2 ^ 31 to 2 ^ 31 - 1; 0 for a NaN
+-- x rounded, halves away from zero, clamped to -2 ^ 31 to 2 ^ 31 - 1; 0 for a NaN
 unfoldable pub roundAway : Float → ℤ
 roundAway nan = pos 0
 roundAway (inf s) = cond s (negℤ (pos 2147483648)) (pos 2147483647)

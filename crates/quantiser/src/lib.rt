@@ -1,22 +1,22 @@
 // The quantiser: which code is picked for a mantissa, operation by operation as in the Rust.
 ghost use mathlib.Core.Path.{_≡_};
-ghost use Prim.Native.Nat.{_+_, _<_, _≤_, _^_, _-_};
-ghost use mathlib.Core.Bool.{cond};
-ghost use lib.Dec.{T, eqb};
-ghost use lib.IntN.{pos, negℤ};
+ghost use Prim.Native.Nat.{_≤_};
 ghost use lib.ListN.{length};
-ghost use lib.Signed.{mag};
-ghost use lib.Ieee.{binary32, lt, div, ofBits};
-ghost use Rattle.quantiser.specs.Round.{roundMag, roundAway};
-ghost use Rattle.quantiser.specs.Quantise.{f1e-9, clampZ, minZ, toBits, absF, maxF, valueAt, probed, bestOf, bestOne, slopeAt, estLarge, bestLarge, smallOf, isSmall, oneCode, largeCode, picked, codeLevel, allowed, quantised, binValues, codesBits, errorFrom, binOf, noBin, quantisedBin};
-ghost use Rattle.quantiser.specs.Work.{exponentOf, stepsOf};
+ghost use Rattle.quantiser.specs.Quantise.{picked, allowed, quantised, binValues, codesBits, errorFrom, binPicked, noBin, quantisedBin};
+ghost use Rattle.quantiser.specs.Work.{unitBy, stepsOf, IsSteps};
 ghost use Rattle.tables.specs.Tables.{mantBits};
-ghost use Rattle.levels.specs.Codes.{largeBits, codeBits};
-ghost use Rattle.levels.specs.Work.{wordOf, remapOf};
-ghost use Rattle.levels.specs.Value.{f0, f1, power, gaqRemap};
+ghost use Rattle.levels.specs.Codes.{codeBits};
+ghost use Rattle.levels.specs.Work.{wordOf};
+ghost use Rattle.levels.specs.Value.{f0};
 use levels::Code;
 use levels::Level;
 use levels::Remap;
+
+mod integers;
+mod pick;
+mod probes;
+mod reals;
+mod round;
 
 // The code that is picked and its level, or the number of the refusal.
 pub enum PickResult {
@@ -24,7 +24,7 @@ pub enum PickResult {
     Refused(u8),
 }
 
-// The six values of a bin, its bits and the sum of its squared errors; refusal is 0, or the number of the refusal with zeros beside it.
+// The six values of a bin, its bits and the sum of its squared errors. refusal is 0, or its number beside zeros.
 pub struct QuantisedBin {
     pub refusal: u8,
     pub values: [f32; 6],
@@ -44,10 +44,12 @@ pub struct CodeLevel {
     pub level: Level,
 }
 
-// What a hebap and a gain fix, worked out once for many components: the remap; n, where 2^n is the whole scale of the large codes (at
-// Gk 1 of all), and 1 / 2^n; the step of the estimate; the values of the levels 0 and -1; the whole scale and the bits of the small
-// codes, and the bits of the large ones.
+// What a hebap and a gain fix, computed once for many components: the remap; n, where 2^n is full scale of the large
+// codes (at Gk 1 of all), and 1 / 2^n; the step of the estimate; the values of the levels 0 and -1; full scale and
+// the bits of the small codes, and the bits of the large ones.
 pub struct Steps {
+    pub hebap: u8,
+    pub gk: u8,
     pub remap: Remap,
     pub n: u32,
     pub part: f32,
@@ -71,173 +73,16 @@ pub struct Best {
     pub e: f32,
 }
 
-// ---- rounding
-
-// For x above zero. x + x is exact, so the whole part of it has all that rounding asks.
-fn magnitude(x: f32) -> u64
-    requires { ⌜ T (lt (ofBits binary32 0) x) ⌝ }
-    ensures { λ r. ⌜ r ≡ roundMag x ⌝ }
-{
-    if x < 2147483648.0 {
-        (std::num::truncating_f32_to_u64(x + x) + 1) / 2
-    } else {
-        2147483648
-    }
-}
-
-// To the nearest whole number, halves away from zero, held to an i32; 0 for a NaN. Both signs take one
-// path.
-fn round_half_away(x: f32) -> i64
-    ensures { λ r. ⌜ r ≡ roundAway x ⌝ }
-{
-    let a = if x < 0.0 { -x } else { x };
-    if a > 0.0 {
-        let n = magnitude(a);
-        if x < 0.0 {
-            0 - (n as i64)
-        } else {
-            if n < 2147483648 { n as i64 } else { 2147483647 }
-        }
-    } else {
-        0
-    }
-}
-
-// ---- integers; i64 leaves room for an estimate and one more
-
-fn clamp(z: i64, lo: i64, hi: i64) -> i64
-    ensures { λ r. ⌜ r ≡ clampZ lo hi z ⌝ }
-{
-    if z < lo {
-        return lo;
-    }
-    if hi < z {
-        return hi;
-    }
-    z
-}
-
-// 2^n - 1, -(2^n - 1) and -2^n
-fn highest(n: u32) -> i64
-    requires { ⌜ n ≤ 16 ⌝ }
-    ensures { λ r. ⌜ r ≡ pos (2 ^ n - 1) ⌝ }
-{
-    (levels::two_to(n) - 1) as i64
-}
-
-fn opposite(n: u32) -> i64
-    requires { ⌜ n ≤ 16 ⌝ }
-    ensures { λ r. ⌜ r ≡ negℤ (pos (2 ^ n - 1)) ⌝ }
-{
-    0 - (levels::two_to(n) - 1) as i64
-}
-
-fn lowest(n: u32) -> i64
-    requires { ⌜ n ≤ 16 ⌝ }
-    ensures { λ r. ⌜ r ≡ negℤ (pos (2 ^ n)) ⌝ }
-{
-    0 - levels::two_to(n) as i64
-}
-
-// Two's complement of n bits.
-fn to_bits(v: i64, n: u32) -> u32
-    requires { ⌜ n ≤ 16 ⌝ }
-    requires { ⌜ mag v < 2 ^ n ⌝ }
-    ensures { λ r. ⌜ r ≡ toBits n v ⌝ }
-{
-    if v < 0 {
-        let p = levels::two_to(n) as i64;
-        (p + v) as u32
-    } else {
-        v as u32
-    }
-}
-
-// ---- floats
-
-fn abs(x: f32) -> f32
-    ensures { λ r. ⌜ r ≡ absF x ⌝ }
-{
-    let y = if x < 0.0 { -x } else { x };
-    if y == 0.0 { 0.0 } else { y }
-}
-
-// a.max(1e-9)
-fn at_least(a: f32) -> f32
-    ensures { λ r. ⌜ r ≡ maxF a f1e-9 ⌝ }
-{
-    if a < 1e-9 {
-        return 1e-9;
-    }
-    if a != a {
-        return 1e-9;
-    }
-    a
-}
-
-// ---- probes
-
-// The f32 of the level k, where 2^n is the whole scale and part is 1 / 2^n. hebap and gk say whose remap it is.
-fn value(remap: Remap, part: f32, hebap: u8, gk: u8, n: u32, k: i64) -> f32
-    requires { ⌜ (8 ≤ hebap) × (hebap ≤ 19) ⌝ }
-    requires { ⌜ (remap ≡ remapOf hebap gk) × (part ≡ div binary32 f1 (power n)) ⌝ }
-    requires { ⌜ mag k < 2 ^ 24 ⌝ }
-    requires { ⌜ (1 ≤ n) × (n ≤ 16) ⌝ }
-    ensures { λ r. ⌜ r ≡ valueAt hebap gk n k ⌝ }
-{
-    levels::remap_by(remap, k as i32 as f32 * part)
-}
-
-fn probe(st: Steps, hebap: u8, gk: u8, lo: i64, hi: i64, x: f32, z: i64, best: Best) -> Best
-    requires { ⌜ (8 ≤ hebap) × (hebap ≤ 19) ⌝ }
-    requires { ⌜ st ≡ stepsOf hebap gk ⌝ }
-    requires { ⌜ (mag lo < 2 ^ 24) × (mag hi < 2 ^ 24) ⌝ }
-    ensures { λ r. ⌜ r ≡ probed hebap gk (exponentOf hebap gk) lo hi x z best ⌝ }
-{
-    let k = clamp(z, lo, hi);
-    let e = abs(value(st.remap, st.part, hebap, gk, st.n, k) - x);
-    if e < best.e { Best { k, e } } else { best }
-}
-
-// The first of est - 1, est and est + 1 with the least error.
-fn search(st: Steps, hebap: u8, gk: u8, lo: i64, hi: i64, x: f32, start: i64, est: i64) -> i64
-    requires { ⌜ (8 ≤ hebap) × (hebap ≤ 19) ⌝ }
-    requires { ⌜ st ≡ stepsOf hebap gk ⌝ }
-    requires { ⌜ (mag lo < 2 ^ 24) × (mag hi < 2 ^ 24) × (mag start < 2 ^ 24) × (mag est < 2 ^ 40) ⌝ }
-    ensures { λ r. ⌜ r ≡ bestOf hebap gk (exponentOf hebap gk) lo hi x start est ⌝ }
-{
-    let first = Best {
-        k: start,
-        e: f32::from_bits(0x7f80_0000),
-    };
-    let b = probe(st, hebap, gk, lo, hi, x, est - 1, first);
-    let c = probe(st, hebap, gk, lo, hi, x, est, b);
-    let d = probe(st, hebap, gk, lo, hi, x, est + 1, c);
-    d.k
-}
-
 // ---- what a hebap and a gain fix
 
-// 1.min(2^n - 1)
-fn first_level(n: u32) -> i64
-    requires { ⌜ n ≤ 16 ⌝ }
-    ensures { λ r. ⌜ r ≡ minZ (pos 1) (pos (2 ^ n - 1)) ⌝ }
-{
-    let top = levels::two_to(n) - 1;
-    if top < 1 { top as i64 } else { 1 }
-}
-
 // The step of the estimate: at Gk 1 the value of the level 1, else what the levels 1 and 0 differ by.
-fn unit(remap: Remap, part: f32, hebap: u8, gk: u8, n: u32) -> f32
-    requires { ⌜ (8 ≤ hebap) × (hebap ≤ 19) ⌝ }
-    requires { ⌜ (remap ≡ remapOf hebap gk) × (part ≡ div binary32 f1 (power n)) ⌝ }
-    requires { ⌜ (1 ≤ n) × (n ≤ 16) ⌝ }
-    ensures { λ r. ⌜ r ≡ cond (eqb gk 1) (gaqRemap hebap 1 (div binary32 f1 (power n))) (slopeAt hebap gk n) ⌝ }
+fn unit(remap: Remap, part: f32, gk: u8) -> f32
+    ensures { λ r. ⌜ r ≡ unitBy remap part gk ⌝ }
 {
     if gk == 1 {
         return levels::remap_by(remap, part);
     }
-    at_least(value(remap, part, hebap, gk, n, first_level(n)) - value(remap, part, hebap, gk, n, 0))
+    reals::at_least(probes::value(remap, part, 1) - probes::value(remap, part, 0))
 }
 
 pub fn steps_of(hebap: u8, gk: u8) -> Steps
@@ -250,143 +95,43 @@ pub fn steps_of(hebap: u8, gk: u8) -> Steps
     let remap = levels::remap_of(hebap, gk);
     let part = 1.0 / levels::scale(n);
     Steps {
+        hebap,
+        gk,
         remap,
         n,
         part,
-        unit: unit(remap, part, hebap, gk, n),
-        zero: value(remap, part, hebap, gk, n, 0),
-        below: value(remap, part, hebap, gk, n, -1),
+        unit: unit(remap, part, gk),
+        zero: probes::value(remap, part, 0),
+        below: probes::value(remap, part, -1),
         whole: levels::scale(m - 1),
         small: levels::small_bits(m, gk),
         large,
     }
 }
 
-// ---- Gk 1
-
-fn search_one(st: Steps, hebap: u8, x: f32) -> i64
-    requires { ⌜ (8 ≤ hebap) × (hebap ≤ 19) ⌝ }
-    requires { ⌜ st ≡ stepsOf hebap 1 ⌝ }
-    ensures { λ r. ⌜ r ≡ bestOne hebap (mantBits hebap - 1) x ⌝ }
-{
-    let est = if st.unit > 0.0 {
-        round_half_away(x / st.unit)
-    } else {
-        0
-    };
-    search(st, hebap, 1, opposite(st.n), highest(st.n), x, 0, est)
-}
-
-// ---- Gk 2 and 4
-
-fn estimate_large(st: Steps, hebap: u8, gk: u8, x: f32) -> i64
-    requires { ⌜ (8 ≤ hebap) × (hebap ≤ 19) ⌝ }
-    requires { ⌜ (st ≡ stepsOf hebap gk) × (gk ≡ 1 → ⊥) ⌝ }
-    ensures { λ r. ⌜ r ≡ estLarge hebap gk (exponentOf hebap gk) x ⌝ }
-{
-    if x >= 0.0 {
-        let r = round_half_away((x - st.zero) / st.unit);
-        return clamp(r, 0, highest(st.n));
-    }
-    let r = round_half_away((x - st.below) / st.unit);
-    clamp(-1 + r, lowest(st.n), -1)
-}
-
-fn search_large(st: Steps, hebap: u8, gk: u8, x: f32) -> i64
-    requires { ⌜ (8 ≤ hebap) × (hebap ≤ 19) ⌝ }
-    requires { ⌜ (st ≡ stepsOf hebap gk) × (gk ≡ 1 → ⊥) ⌝ }
-    ensures { λ r. ⌜ r ≡ bestLarge hebap gk (exponentOf hebap gk) x ⌝ }
-{
-    let est = estimate_large(st, hebap, gk, x);
-    search(st, hebap, gk, lowest(st.n), highest(st.n), x, est, est)
-}
-
-fn small_level(st: Steps, hebap: u8, gk: u8, x: f32) -> i64
-    requires { ⌜ (8 ≤ hebap) × (hebap ≤ 19) ⌝ }
-    requires { ⌜ st ≡ stepsOf hebap gk ⌝ }
-    ensures { λ r. ⌜ r ≡ smallOf (mantBits hebap - 1) x ⌝ }
-{
-    round_half_away(x * st.whole)
-}
-
-fn is_small(b: u32, s: i64) -> bool
-    requires { ⌜ (1 ≤ b) × (b ≤ 16) ⌝ }
-    ensures { λ r. ⌜ r ≡ isSmall b s ⌝ }
-{
-    if lowest(b - 1) < s {
-        return s < levels::two_to(b - 1) as i64;
-    }
-    false
-}
-
-// ---- the code that is picked
-
-fn pick_one(st: Steps, hebap: u8, x: f32) -> CodeLevel
-    requires { ⌜ (8 ≤ hebap) × (hebap ≤ 19) ⌝ }
-    requires { ⌜ st ≡ stepsOf hebap 1 ⌝ }
-    ensures { λ r. ⌜ r ≡ codeLevel (oneCode hebap x) ⌝ }
-{
-    let k = search_one(st, hebap, x);
-    CodeLevel {
-        code: Code::Large(to_bits(k, st.large)),
-        level: Level::Large(value(st.remap, st.part, hebap, 1, st.n, k)),
-    }
-}
-
-fn pick_large(st: Steps, hebap: u8, gk: u8, x: f32) -> CodeLevel
-    requires { ⌜ (8 ≤ hebap) × (hebap ≤ 19) ⌝ }
-    requires { ⌜ (st ≡ stepsOf hebap gk) × (gk ≡ 1 → ⊥) ⌝ }
-    ensures { λ r. ⌜ r ≡ codeLevel (largeCode hebap gk (largeBits (mantBits hebap) gk) x) ⌝ }
-{
-    let k = search_large(st, hebap, gk, x);
-    CodeLevel {
-        code: Code::Large(to_bits(k, st.large)),
-        level: Level::Large(value(st.remap, st.part, hebap, gk, st.n, k)),
-    }
-}
-
-// The code for x and its level, where the hebap is 8 to 19.
-fn pick(st: Steps, hebap: u8, gk: u8, x: f32) -> CodeLevel
-    requires { ⌜ (8 ≤ hebap) × (hebap ≤ 19) ⌝ }
-    requires { ⌜ st ≡ stepsOf hebap gk ⌝ }
-    ensures { λ r. ⌜ r ≡ codeLevel (picked hebap gk x) ⌝ }
-{
-    if gk == 1 {
-        return pick_one(st, hebap, x);
-    }
-    let s = small_level(st, hebap, gk, x);
-    if is_small(st.small, s) {
-        return CodeLevel {
-            code: Code::Small(to_bits(s, st.small)),
-            level: Level::Small(levels::divided_code(s as i32, levels::mant(hebap) - 1)),
-        };
-    }
-    pick_large(st, hebap, gk, x)
-}
-
 // The same code as one number, its tag with it.
-pub fn word(st: Steps, hebap: u8, gk: u8, x: f32) -> CodeWord
-    requires { ⌜ (8 ≤ hebap) × (hebap ≤ 19) ⌝ }
-    requires { ⌜ st ≡ stepsOf hebap gk ⌝ }
-    ensures { λ r. ⌜ (r .bits ≡ wordOf (mantBits hebap) gk (picked hebap gk x .0)) × (r .width ≡ codeBits (mantBits hebap) gk (picked hebap gk x .0)) ⌝ }
+pub fn word(st: Steps, x: f32) -> CodeWord
+    requires { ⌜ IsSteps st ⌝ }
+    ensures { λ r. ⌜ r .bits ≡ wordOf (mantBits (st .hebap)) (st .gk) (picked (st .hebap) (st .gk) x .0) ⌝ }
+    ensures { λ r. ⌜ r .width ≡ codeBits (mantBits (st .hebap)) (st .gk) (picked (st .hebap) (st .gk) x .0) ⌝ }
 {
-    if gk == 1 {
-        let k = search_one(st, hebap, x);
+    if st.gk == 1 {
+        let k = pick::search_one(st, x);
         return CodeWord {
-            bits: to_bits(k, st.large),
+            bits: integers::to_bits(k, st.large),
             width: st.large,
         };
     }
-    let s = small_level(st, hebap, gk, x);
-    if is_small(st.small, s) {
+    let s = pick::small_level(st, x);
+    if pick::is_small(st.small, s) {
         return CodeWord {
-            bits: to_bits(s, st.small),
+            bits: integers::to_bits(s, st.small),
             width: st.small,
         };
     }
-    let k = search_large(st, hebap, gk, x);
+    let k = pick::search_large(st, x);
     CodeWord {
-        bits: levels::two_to(st.small - 1) * levels::two_to(st.large) + to_bits(k, st.large),
+        bits: bits::pow2(st.small - 1) * bits::pow2(st.large) + integers::to_bits(k, st.large),
         width: st.small + st.large,
     }
 }
@@ -418,14 +163,14 @@ pub fn quantise_scalar(hebap: u8, gk: u8, x: f32) -> PickResult
 {
     if allows(hebap, gk) {
         if levels::in_range(x) {
-            let p = pick(steps_of(hebap, gk), hebap, gk, x);
+            let p = pick::pick(steps_of(hebap, gk), x);
             let code = p.code;
             let level = p.level;
             return PickResult::Picked(code, level);
         }
-        return PickResult::Refused(5);
+        return PickResult::Refused(answers::COMPONENT);
     }
-    PickResult::Refused(11)
+    PickResult::Refused(answers::NO_QUANTISER)
 }
 
 // ---- a bin
@@ -452,7 +197,7 @@ fn fill(hebap: u8, gk: u8, x: &[f32], values: &mut [f32]) -> Sums
     let mut err: f32 = 0.0;
     let mut j: usize = 0;
     while j < x.len() {
-        let p = pick(st, hebap, gk, x[j]);
+        let p = pick::pick(st, x[j]);
         let code = p.code;
         let level = p.level;
         let y = levels::value_of(level);
@@ -469,7 +214,7 @@ fn fill(hebap: u8, gk: u8, x: &[f32], values: &mut [f32]) -> Sums
 fn bin(hebap: u8, gk: u8, x: &[f32]) -> QuantisedBin
     requires { ⌜ (8 ≤ hebap) × (hebap ≤ 19) ⌝ }
     requires { ⌜ length (now x) ≡ 6 ⌝ }
-    ensures { λ r. ⌜ r ≡ binOf hebap gk (now (x .entry)) ⌝ }
+    ensures { λ r. ⌜ r ≡ binPicked hebap gk (now (x .entry)) ⌝ }
 {
     let mut values = [0.0f32; 6];
     let sums = fill(hebap, gk, x, &mut values);
@@ -481,15 +226,15 @@ fn bin(hebap: u8, gk: u8, x: &[f32]) -> QuantisedBin
     }
 }
 
-// The six values of x at the hebap and the gain, with their bits and the sum of their squared errors. Refuses with 11, then 5.
+// The six values of x at the hebap and the gain, their bits and summed squared errors. Refuses with 11, then 5.
 pub fn quantise_bin(hebap: u8, gk: u8, x: &[f32; 6]) -> QuantisedBin
     ensures { λ r. ⌜ r ≡ quantisedBin hebap gk (now (x .entry)) ⌝ }
 {
     if allows(hebap, gk) {
         if levels::any_too_large(x) {
-            return refuse(5);
+            return refuse(answers::COMPONENT);
         }
         return bin(hebap, gk, x);
     }
-    refuse(11)
+    refuse(answers::NO_QUANTISER)
 }

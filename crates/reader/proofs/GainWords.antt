@@ -9,18 +9,19 @@ use lib.ListN.{length, take, drop, set, replicate, length-append, length-take}
 use lib.Seq.{take-all}
 use borrow.Author.Tests.{le-leb, lt-leb, ne-eqb}
 use Rattle.bits.specs.Bits.{bitsOf, bitAt, splice, Inside}
-use Rattle.bits.specs.Format.{Got, got, refused, andThen, Format, number, each-dec, resume}
+use Rattle.bits.specs.Format.{Got, got, refused, andThen, Format, number, each-dec}
+use Rattle.bits.specs.Work.{resume}
 use Rattle.bits.specs.declared.BitPos.{BitPos}
 use Rattle.bits.proofs.Laws.{splice-none, splice-one, splice-more, length-splice}
 use Rattle.bits.proofs.Copying.{put-next}
 use Rattle.bits.proofs.Lawful.{number-lawful, resume-none, resume-next, resume-stop}
 use Rattle.bits.proofs.Reading.{pos-is}
 use Rattle.gains.specs.Gains.{gainValue}
-use Rattle.field.specs.Field.{gainBit, groupWord, first, second, third, oneGain, twoGains, groupWords, gainWords}
-use Rattle.field.proofs.Laws.{by-mode}
-use Rattle.scalars.specs.declared.ScalarResult.{ScalarResult}
-use Rattle.scalars.specs.Scalars.{scalarAnswer}
-use Rattle.reader.specs.Reading.{WhenGot, missingCode, threeGains}
+use Rattle.channel.specs.Field.{gainBit, grpgain, first, second, third, oneGain, twoGains, groupWords, gainWords}
+use Rattle.channel.proofs.Laws.{by-mode}
+use Rattle.bits.specs.declared.BitMove.{BitMove}
+use Rattle.bits.specs.Format.{moveAnswer}
+use Rattle.reader.specs.Work.{Reads, GainsPut, missingCode, threeGains}
 
 -- what is read after xs and ys
 resume-both : {A : Type 0} (xs ys : List A) (g : Got (List A)) → resume xs (resume ys g) ≡ resume (xs ++ ys) g
@@ -42,11 +43,9 @@ module _ (F : ℕ → Format (List ℕ)) (n : ℕ) (s : List ℕ) (start : ℕ) 
     pub gains : out′ ≡ splice out 0 gs
     pub long : length out′ ≡ length out
 
-  -- what the two ensures of the readers say of an answer and the output afterwards
-  abbrev pub Answered : ScalarResult → List ℕ → Type 0
-  Answered r out′ =
-      (r ≡ scalarAnswer (8 * length s) (F n .dec (drop start (bitsOf s))))
-      × WhenGot (F n .dec (drop start (bitsOf s))) (λ gs. out′ ≡ gs ++ drop (length gs) out)
+  -- an answer and the output afterwards
+  abbrev pub Answered : BitMove → List ℕ → Type 0
+  Answered r out′ = Reads (moveAnswer (8 * length s)) (F n .dec (drop start (bitsOf s))) r (GainsPut out out′)
 
   pub none-yet : (p : BitPos) → bitAt p ≡ start → Inside (8 * length s) p → SoFar p 0 out
   none-yet p e i =
@@ -78,15 +77,15 @@ module _ {F : ℕ → Format (List ℕ)} {n : ℕ} {s : List ℕ} {start : ℕ} 
         long = ap length o ∙ length-splice out′ xs i (omega arith) ∙ l;
       }
 
-  pub word-refused : (k : ℕ) → F (n - i) .dec (drop (bitAt p) (bitsOf s)) ≡ refused k → Answered F n s start out (ScalarResult.Refused k) out′
-  word-refused k e = let w : F n .dec (drop start (bitsOf s)) ≡ refused k = f .rest ∙ ap (resume (f .gs)) e in rw w (refl, tt)
+  pub word-refused : (k : ℕ) → F (n - i) .dec (drop (bitAt p) (bitsOf s)) ≡ refused k → Answered F n s start out (BitMove.Refused k) out′
+  word-refused k e = let w : F n .dec (drop start (bitsOf s)) ≡ refused k = f .rest ∙ ap (resume (f .gs)) e in rw w (record { is = refl; left = tt })
 
-  pub words-done : n ≤ i → F 0 .dec (drop (bitAt p) (bitsOf s)) ≡ got [] (drop (bitAt p) (bitsOf s)) → Answered F n s start out (ScalarResult.Done p) out′
+  pub words-done : n ≤ i → F 0 .dec (drop (bitAt p) (bitsOf s)) ≡ got [] (drop (bitAt p) (bitsOf s)) → Answered F n s start out (BitMove.Done p) out′
   unfolding splice
   words-done h e =
       let z : n - i ≡ 0 = omega arith in
       let w : F n .dec (drop start (bitsOf s)) ≡ got (f .gs) (drop (bitAt p) (bitsOf s)) = f .rest ∙ rw (z, e, append-nil) in
-      rw w (ap ScalarResult.Done (sym (pos-is s p (f .inside))), f .gains ∙ rw zero-add)
+      rw w (record { is = ap BitMove.Done (sym (pos-is s p (f .inside))); left = f .gains ∙ rw zero-add })
 
 -- ---- by the mode
 pub words-zero : (mode n : ℕ) (bs : List Bool) → mode ≡ 0 → gainWords mode n .dec bs ≡ got [] bs
@@ -134,12 +133,12 @@ last-word ok gs (refused k) = refl
 
 -- a word, then the rest
 group-first : (n : ℕ) → 1 ≤ n → (bs : List Bool)
-    → groupWords n .dec bs ≡ andThen (groupWord .dec bs) (λ w rest. cond (missingCode w n) (refused 10) (resume (take n (threeGains w)) (groupWords (n - 3) .dec rest)))
+    → groupWords n .dec bs ≡ andThen (grpgain .dec bs) (λ w rest. cond (missingCode w n) (refused 10) (resume (take n (threeGains w)) (groupWords (n - 3) .dec rest)))
 unfolding groupWords missingCode
 group-first zero h bs = absurd (omega arith)
-group-first (suc zero) h bs = last-word oneGain (λ w. first w ∷ []) (groupWord .dec bs)
-group-first (suc (suc zero)) h bs = last-word twoGains (λ w. first w ∷ second w ∷ []) (groupWord .dec bs)
-group-first (suc (suc (suc n))) h bs = word (groupWord .dec bs)
+group-first (suc zero) h bs = last-word oneGain (λ w. first w ∷ []) (grpgain .dec bs)
+group-first (suc (suc zero)) h bs = last-word twoGains (λ w. first w ∷ second w ∷ []) (grpgain .dec bs)
+group-first (suc (suc (suc n))) h bs = word (grpgain .dec bs)
   where
     rest-of : (w : ℕ) (t : Got (List ℕ))
         → andThen (andThen {A = List ℕ} {B = ℕ × List ℕ} t (λ gs rest. got (w, gs) rest)) (λ p rest. got (first (p .0) ∷ second (p .0) ∷ third (p .0) ∷ p .1) rest) ≡ resume (threeGains w) t

@@ -1,5 +1,6 @@
--- What stands at the places of a record, when an answer is the record's, and the count of answers. The places are those that src/lib.rt names.
-use Prim.Native.Nat.{ℕ, min, _+_, _-_, _*_, _%_, _^_}
+-- What stands at the places of a record, when an answer is the record's, and the count of answers. The places are
+-- those that src/lib.rt names.
+use Prim.Native.Nat.{ℕ, min, _+_, _*_, _%_, _^_}
 use mathlib.Core.Path.{_≡_}
 use mathlib.Core.Bool.{Bool, cond, not, _&&_}
 use mathlib.Core.List.{List}
@@ -7,7 +8,7 @@ use lib.Dec.{eqb, ltb}
 use lib.ListN.{take, drop, getD}
 use lib.Ieee.{Float, nan, binary32, ofBits, toBits, isNan}
 use Rattle.bits.specs.declared.BitPos.{BitPos}
-use Rattle.bits.specs.declared.BitWrite.{BitWrite}
+use Rattle.bits.specs.declared.BitMove.{BitMove}
 use Rattle.records.specs.declared.Count.{Count}
 
 -- ---- numbers
@@ -46,9 +47,9 @@ samePlace r p = eqb (at64 r 112) (p .byte) && eqb (at32 r 120) (p .bit)
 abbrev pub SameOut : List ℕ → List ℕ → ℕ → Type 0
 SameOut r out n = take n (drop 56 out) ≡ take n (drop 80 r)
 
-abbrev pub sameWritten : List ℕ → BitWrite → Bool
-sameWritten r (BitWrite.Done q) = sameValue r 0 0 && samePlace r q
-sameWritten r (BitWrite.Refused k) = sameValue r k 0
+abbrev pub sameWritten : List ℕ → BitMove → Bool
+sameWritten r (BitMove.Done q) = sameValue r 0 0 && samePlace r q
+sameWritten r (BitMove.Refused k) = sameValue r k 0
 
 -- the bits of y, no NaN, stand at the place
 unfoldable pub sameFloat : List ℕ → ℕ → Float → Bool

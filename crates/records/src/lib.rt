@@ -1,12 +1,12 @@
-// What replay and replay_channels share. A record is a call with the answer that the Rust gave (tests/judge/record.rs wrote it):
-// its places, the numbers that stand there, whether an answer is the record's, and the count of answers.
+// What replay and replay_channels share. A record is a call with the answer that the Rust gave (tests/judge/record.rs
+// wrote it): its places, the numbers that stand there, whether an answer is the record's, and the count of answers.
 ghost use mathlib.Core.Path.{_≡_};
 ghost use mathlib.Core.Bool.{true};
 ghost use Prim.Native.Nat.{min, _+_, _<_, _≤_};
 ghost use Rattle.levels.specs.Codes.{signed};
 ghost use Rattle.records.specs.Records.{at8, at16, at32, at64, floatOf, positionOf, inputOf, sameValue, samePlace, SameOut, sameWritten, sameFloat, sameFloats, newCount, oneMore, countAfter};
+use bits::BitMove;
 use bits::BitPos;
-use bits::BitWrite;
 use libc::STDIN_FILENO;
 use libc::STDOUT_FILENO;
 
@@ -177,12 +177,12 @@ pub fn same_out(r: &Record, out: &Record, n: usize) -> bool
 }
 
 // Whether the answer of a call that writes is the record's.
-pub fn same_written(r: &Record, answer: BitWrite) -> bool
+pub fn same_written(r: &Record, answer: BitMove) -> bool
     ensures { λ b. ⌜ b ≡ sameWritten (now (r .entry)) answer ⌝ }
 {
     match answer {
-        BitWrite::Done(q) => same_value(r, 0, 0) && same_place(r, q),
-        BitWrite::Refused(k) => same_value(r, k, 0),
+        BitMove::Done(q) => same_value(r, 0, 0) && same_place(r, q),
+        BitMove::Refused(k) => same_value(r, k, 0),
     }
 }
 
@@ -289,7 +289,8 @@ pub fn new_count(function: u8) -> Count
     }
 }
 
-// The count after the answer to a record. The records stand by function: where the next one begins, the count of the last one is printed.
+// The count after the answer to a record. The records stand by function: where the next one begins, the count of the
+// last one is printed.
 pub fn counted(c: Count, r: &Record, ok: bool) -> Count
     ensures { λ n. ⌜ n ≡ countAfter c (at8 (now (r .entry)) 0) ok ⌝ }
 {

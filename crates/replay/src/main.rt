@@ -1,10 +1,11 @@
-// Replays the recorded answers of the calls below the planner (crates/records has what a record is, tests/judge/record.rs how it was
-// made). Prints for each function how many answers were replayed and how many were wrong.
+// Replays the recorded answers of the calls below the planner (crates/records has what a record is,
+// tests/judge/record.rs how it was made). Prints for each function how many answers were replayed and how many were
+// wrong.
 ghost use Prim.Native.Nat.{_≤_};
+use answers::ByteResult;
+use answers::SizeResult;
+use bits::BitMove;
 use bits::BitRead;
-use books::SearchResult;
-use gains::ByteResult;
-use gains::CountResult;
 use gains::GainsResult;
 use levels::Code;
 use quantiser::PickResult;
@@ -20,8 +21,6 @@ use records::OUT_AFTER;
 use records::OUT_LEN;
 use records::Record;
 use records::VECTORS;
-use scalars::ScalarResult;
-use tables::HebapResult;
 
 fn read(r: &Record) -> BitRead {
     let p = records::position(r);
@@ -61,8 +60,8 @@ fn replay_hebap(r: &Record) -> bool {
         records::signed32(records::number32(r, ARG32)),
     );
     match answer {
-        HebapResult::Hebap(h) => records::same_value(r, 0, h as u64),
-        HebapResult::Refused(k) => records::same_value(r, k, 0),
+        ByteResult::Value(h) => records::same_value(r, 0, h as u64),
+        ByteResult::Refused(k) => records::same_value(r, k, 0),
     }
 }
 
@@ -73,10 +72,10 @@ fn replay_byte(r: &Record, answer: ByteResult) -> bool {
     }
 }
 
-fn replay_count(r: &Record, answer: CountResult) -> bool {
+fn replay_count(r: &Record, answer: SizeResult) -> bool {
     match answer {
-        CountResult::Count(n) => records::same_value(r, 0, n as u64),
-        CountResult::Refused(k) => records::same_value(r, k, 0),
+        SizeResult::Value(n) => records::same_value(r, 0, n as u64),
+        SizeResult::Refused(k) => records::same_value(r, k, 0),
     }
 }
 
@@ -146,8 +145,8 @@ fn replay_scalars(r: &Record) -> bool {
         return false;
     }
     match answer {
-        ScalarResult::Done(q) => records::same_value(r, 0, 0) && records::same_place(r, q),
-        ScalarResult::Refused(k) => records::same_value(r, k, 0),
+        BitMove::Done(q) => records::same_value(r, 0, 0) && records::same_place(r, q),
+        BitMove::Refused(k) => records::same_value(r, k, 0),
     }
 }
 
@@ -166,14 +165,14 @@ fn replay_lookup(r: &Record, answer: [f32; 6]) -> bool {
     records::same_floats(r, &answer) && records::same_value(r, 0, 0)
 }
 
-fn replay_search(r: &Record, answer: SearchResult) -> bool {
+fn replay_search(r: &Record, answer: SizeResult) -> bool {
     match answer {
-        SearchResult::Index(i) => records::same_value(r, 0, i as u64),
-        SearchResult::Refused(k) => records::same_value(r, k, 0),
+        SizeResult::Value(i) => records::same_value(r, 0, i as u64),
+        SizeResult::Refused(k) => records::same_value(r, k, 0),
     }
 }
 
-fn search(r: &Record, x: [f32; 6]) -> SearchResult {
+fn search(r: &Record, x: [f32; 6]) -> SizeResult {
     books::vq_search(r[A], &x)
 }
 

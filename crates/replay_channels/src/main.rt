@@ -1,4 +1,5 @@
-// Replays the recorded answers of the calls that plan, write and read a channel, as replay does for the calls below them.
+// Replays the recorded answers of the calls that plan, write and read a channel, as replay does for the calls below
+// them.
 ghost use Prim.Native.Nat.{_+_, _≤_};
 use planner::Plan;
 use planner::Planned;
@@ -23,6 +24,7 @@ use records::SRC;
 use records::SRC_LEN;
 use records::VALUE;
 use records::VECTORS;
+use writer::ChannelWrite;
 
 // ---- plan_aht_channel
 
@@ -79,7 +81,7 @@ fn replay_plan(r: &Record, answer: Planned) -> bool {
 
 // The gains of a plan: eight of the record, then zeros.
 fn gains_of(r: &Record) -> [u8; 256] {
-    let mut gains = planner::no_gains();
+    let mut gains = channel::no_gains();
     let mut i: usize = 0;
     while i < 8 {
         gains[i] = r[ARG64 + i];
@@ -94,6 +96,13 @@ fn plan_of(r: &Record, gains: [u8; 256]) -> Plan {
         gains,
         count: records::wide(r[D]) as usize,
         payload: records::number32(r, ARG32) as u32,
+    }
+}
+
+fn same_write(r: &Record, answer: ChannelWrite) -> bool {
+    match answer {
+        ChannelWrite::Done(q) => records::same_value(r, 0, 0) && records::same_place(r, q),
+        ChannelWrite::Refused(k) => records::same_value(r, k, 0),
     }
 }
 
@@ -112,7 +121,7 @@ fn replay_channel_write(r: Record, plan: Plan, x: [f32; 30]) -> bool {
         &mut out[OUT..OUT_AFTER],
         p,
     );
-    records::same_out(&r, &out, 24) && records::same_written(&r, answer)
+    records::same_out(&r, &out, 24) && same_write(&r, answer)
 }
 
 // ---- read_aht_channel

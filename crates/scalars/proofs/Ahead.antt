@@ -1,4 +1,4 @@
--- Codes whose bits are known to be there: what is read of them, and a turn of a loop that has read d bits from the start on. Assumes nothing.
+-- Codes that were bounds-checked as a whole: what is read, and a turn of a loop that has read d bits. Assumes nothing.
 use Prim.Native.Nat.{ℕ, _+_, _-_, _*_, _≤_, _<_}
 use mathlib.Core.Path.{_≡_, sym, ap, _∙_}
 use mathlib.Core.Bool.{Bool, true, false, cond}
@@ -48,14 +48,13 @@ module _ (h g : ℕ) (s : List ℕ) (k : ℕ) where
       rw (coded-tagged (mantBits h) g e, ← add-assoc k w w′) (tagged-large w w′ _ _ _ _ _ (there s k w few (omega arith)) tagged (there s (k + w) w′ few′ (rw (add-assoc k w w′) f)))
 
 -- a turn: the code takes n bits
-module _ (h g at : ℕ) (s : List ℕ) (start : ℕ) (v : List Float) (x : List ℤ) (hv : at + 6 ≤ length v) (hx : at + 6 ≤ length x) where
-  pub turn : (d n j : ℕ) (v′ : List Float) (x′ : List ℤ) → SoFar h g at s start v x (posOf (start + d)) j v′ x′ → j < 6
-      → (c : Code) → coded (mantBits h) g .dec (drop (start + d) (bitsOf s)) ≡ got c (drop (start + d + n) (bitsOf s)) → start + d + n ≤ 8 * length s
-      → (y : Float) (z : ℤ) → y ≡ valueOf h g c → z ≡ exactOf h g c → SoFar h g at s start v x (posOf (start + (d + n))) (j + 1) (set v′ (at + j) y) (set x′ (at + j) z)
-  turn d n j v′ x′ f more c e i y z ey ez =
-      let r : start + (d + n) ≡ start + d + n = sym (add-assoc start d n) in
-      rw r
-      (one-more h g at s start v x (posOf (start + d)) j v′ x′ f more c (posOf (start + d + n)) y z hv hx (omega arith, omega arith) (rw (at-pos (start + d), at-pos (start + d + n)) e) ey ez)
+pub turn : {h g at : ℕ} {s : List ℕ} {start : ℕ} {v : List Float} {x : List ℤ} {j : ℕ} {v′ : List Float} {x′ : List ℤ} (d n : ℕ)
+    → SoFar h g at s start v x (posOf (start + d)) j v′ x′ → at + 6 ≤ length v → at + 6 ≤ length x → j < 6
+    → (c : Code) → coded (mantBits h) g .dec (drop (start + d) (bitsOf s)) ≡ got c (drop (start + d + n) (bitsOf s)) → start + d + n ≤ 8 * length s
+    → (y : Float) (z : ℤ) → y ≡ valueOf h g c → z ≡ exactOf h g c → SoFar h g at s start v x (posOf (start + (d + n))) (j + 1) (set v′ (at + j) y) (set x′ (at + j) z)
+turn {start = start} d n f hv hx more c e i y z ey ez =
+    let r : start + (d + n) ≡ start + d + n = sym (add-assoc start d n) in
+    rw r (one-more f more c (posOf (start + d + n)) y z hv hx (omega arith, omega arith) (rw (at-pos (start + d), at-pos (start + d + n)) e) ey ez)
 
 -- ---- widths: six codes of at most 30 bits each
 pub record Widths (w w′ : ℕ) : Type 0 where

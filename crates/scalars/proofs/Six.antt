@@ -8,9 +8,10 @@ use lib.IntN.{ℤ}
 use lib.Ieee.{Float}
 use lib.ListN.{length, drop, set, replicate, length-append, length-map, drop-of-length-le}
 use Rattle.bits.specs.Bits.{bitsOf, bitAt, splice, Inside}
-use Rattle.bits.specs.Format.{Got, got, refused, andThen, Format, each-Ok, each-dec, resume}
+use Rattle.bits.specs.Format.{Got, got, refused, andThen, Format, each-Ok, each-dec}
+use Rattle.bits.specs.Work.{resume}
 use Rattle.bits.specs.declared.BitPos.{BitPos}
-use Rattle.bits.proofs.Laws.{splice-none, length-splice}
+use Rattle.bits.proofs.Laws.{splice-none}
 use Rattle.bits.proofs.Copying.{put-more}
 use Rattle.bits.proofs.Lawful.{each-lawful, resume-none, resume-next, resume-stop, resume-done}
 use Rattle.bits.proofs.Reading.{pos-is}
@@ -20,8 +21,10 @@ use Rattle.levels.specs.Codes.{coded, six, Accepted}
 use Rattle.levels.specs.Exact.{exactOf}
 use Rattle.levels.specs.Value.{valueOf}
 use Rattle.levels.proofs.CodeLaws.{coded-lawful, coded-accepted}
-use Rattle.scalars.specs.declared.ScalarResult.{ScalarResult}
-use Rattle.scalars.specs.Scalars.{scalarAnswer, codeAnd, codesThere, sixValues, sixExacts, scalarsAfter}
+use Rattle.bits.specs.declared.BitMove.{BitMove}
+use Rattle.bits.specs.Format.{moveAnswer}
+use Rattle.scalars.specs.Scalars.{scalarsAfter}
+use Rattle.scalars.specs.Work.{codeAnd, codesThere, sixValues, sixExacts}
 
 -- a code that was read is accepted
 pub code-accepted : (h g : ℕ) (bs rest : List Bool) (c : Code) → coded (mantBits h) g .dec bs ≡ got c rest → Accepted h g c
@@ -42,16 +45,13 @@ unfolding codesThere
 there-none F bs = refl
 
 module _ (h g at : ℕ) (s : List ℕ) (start : ℕ) (v : List Float) (x : List ℤ) where
-  abbrev one : ℕ → Format Code
-  one k = coded (mantBits h) g
-
   -- the codes read so far, and where they and the rest stand
   pub record SoFar (p : BitPos) (j : ℕ) (v′ : List Float) (x′ : List ℤ) : Type 0 where
     pub cs : List Code
     pub count : length cs ≡ j
     pub few : j ≤ 6
     pub inside : Inside (8 * length s) p
-    pub rest : six (mantBits h) g .dec (drop start (bitsOf s)) ≡ resume cs (each-dec one (replicate (6 - j) 0) (drop (bitAt p) (bitsOf s)))
+    pub rest : six (mantBits h) g .dec (drop start (bitsOf s)) ≡ resume cs (each-dec (λ (k : ℕ). coded (mantBits h) g) (replicate (6 - j) 0) (drop (bitAt p) (bitsOf s)))
     pub there : codesThere (coded (mantBits h) g) 6 (drop start (bitsOf s)) ≡ cs ++ codesThere (coded (mantBits h) g) (6 - j) (drop (bitAt p) (bitsOf s))
     pub values : v′ ≡ splice v at (map (valueOf h g) cs)
     pub exacts : x′ ≡ splice x at (map (exactOf h g) cs)
@@ -69,20 +69,40 @@ module _ (h g at : ℕ) (s : List ℕ) (start : ℕ) (v : List Float) (x : List 
         exacts = sym (splice-none x at);
       }
 
-  -- of lists that are given by equations
-  pub in-lists : (p : BitPos) (j : ℕ) (v′ v″ : List Float) (x′ x″ : List ℤ) → v″ ≡ v′ → x″ ≡ x′ → SoFar p j v′ x′ → SoFar p j v″ x″
-  in-lists p j v′ v″ x′ x″ e e′ f = rw (e, e′) f
+  -- what a loop answers with, and what it leaves
+  abbrev pub Answered : BitMove → List Float → List ℤ → Type 0
+  Answered r v′ x′ =
+      (r ≡ moveAnswer (8 * length s) (six (mantBits h) g .dec (drop start (bitsOf s))))
+      × ((v′ ≡ sixValues h g at (drop start (bitsOf s)) v) × (x′ ≡ sixExacts h g at (drop start (bitsOf s)) x))
 
-  module _ (p : BitPos) (j : ℕ) (v′ : List Float) (x′ : List ℤ) (f : SoFar p j v′ x′) (more : j < 6) where
-    left : replicate {A = ℕ} (6 - j) 0 ≡ 0 ∷ replicate (6 - (j + 1)) 0
-    left = let e : 6 - j ≡ suc (6 - (j + 1)) = omega arith in ap (λ (n : ℕ). replicate {A = ℕ} n 0) e
+module _ {h g at : ℕ} {s : List ℕ} {start : ℕ} {v : List Float} {x : List ℤ} {p : BitPos} {j : ℕ} {v′ : List Float} {x′ : List ℤ}
+    (f : SoFar h g at s start v x p j v′ x′) where
+  abbrev one : ℕ → Format Code
+  one k = coded (mantBits h) g
 
+  abbrev here : List Bool
+  here = drop (bitAt p) (bitsOf s)
+
+  -- in lists that are given by equations
+  pub in-lists : (v″ : List Float) (x″ : List ℤ) → v″ ≡ v′ → x″ ≡ x′ → SoFar h g at s start v x p j v″ x″
+  in-lists v″ x″ e e′ = rw (e, e′) f
+
+  -- where the codes so far are all that are there
+  put : (r : BitMove) → r ≡ moveAnswer (8 * length s) (six (mantBits h) g .dec (drop start (bitsOf s))) → codesThere (coded (mantBits h) g) 6 (drop start (bitsOf s)) ≡ f .cs
+      → Answered h g at s start v x r v′ x′
+  unfolding sixValues sixExacts
+  put r a e = (a, (rw e (f .values), rw e (f .exacts)))
+
+  module _ (more : j < 6) where
     turns : 6 - j ≡ suc (6 - (j + 1))
     turns = omega arith
 
+    left : replicate {A = ℕ} (6 - j) 0 ≡ 0 ∷ replicate (6 - (j + 1)) 0
+    left = ap (λ (n : ℕ). replicate {A = ℕ} n 0) turns
+
     pub one-more : (c : Code) (q : BitPos) (y : Float) (z : ℤ) → at + 6 ≤ length v → at + 6 ≤ length x → Inside (8 * length s) q
-        → coded (mantBits h) g .dec (drop (bitAt p) (bitsOf s)) ≡ got c (drop (bitAt q) (bitsOf s)) → y ≡ valueOf h g c → z ≡ exactOf h g c
-        → SoFar q (j + 1) (set v′ (at + j) y) (set x′ (at + j) z)
+        → coded (mantBits h) g .dec here ≡ got c (drop (bitAt q) (bitsOf s)) → y ≡ valueOf h g c → z ≡ exactOf h g c
+        → SoFar h g at s start v x q (j + 1) (set v′ (at + j) y) (set x′ (at + j) z)
     one-more c q y z hv hx i e ey ez =
         let k = f .count in
         let hv′ : at + length (f .cs) < length v = omega arith in
@@ -92,45 +112,28 @@ module _ (h g at : ℕ) (s : List ℕ) (start : ℕ) (v : List Float) (x : List 
           count = length-append (f .cs) (c ∷ []) ∙ ap (λ (n : ℕ). n + 1) k;
           few = omega arith;
           inside = i;
-          rest = f .rest ∙ rw left (resume-next one 0 (replicate (6 - (j + 1)) 0) (drop (bitAt p) (bitsOf s)) (drop (bitAt q) (bitsOf s)) (f .cs) c e);
+          rest = f .rest ∙ rw left (resume-next one 0 (replicate (6 - (j + 1)) 0) here (drop (bitAt q) (bitsOf s)) (f .cs) c e);
           there =
-              f .there ∙ rw (turns, there-more (coded (mantBits h) g) (6 - (j + 1)) (drop (bitAt p) (bitsOf s)) c (drop (bitAt q) (bitsOf s)) e)
+              f .there ∙ rw (turns, there-more (coded (mantBits h) g) (6 - (j + 1)) here c (drop (bitAt q) (bitsOf s)) e)
               (sym (append-assoc (f .cs) (c ∷ []) (codesThere (coded (mantBits h) g) (6 - (j + 1)) (drop (bitAt q) (bitsOf s)))));
           values = rw (ey, f .values, ← k) (put-more (valueOf h g) v at (f .cs) c hv′);
           exacts = rw (ez, f .exacts, ← k) (put-more (exactOf h g) x at (f .cs) c hx′);
         }
 
     -- the bits run out
-    pub cut : (k : ℕ) → coded (mantBits h) g .dec (drop (bitAt p) (bitsOf s)) ≡ refused k → six (mantBits h) g .dec (drop start (bitsOf s)) ≡ refused k
-    cut k e = f .rest ∙ rw left (resume-stop one 0 (replicate (6 - (j + 1)) 0) (drop (bitAt p) (bitsOf s)) (f .cs) k e)
-
-    pub cut-there : (k : ℕ) → coded (mantBits h) g .dec (drop (bitAt p) (bitsOf s)) ≡ refused k → codesThere (coded (mantBits h) g) 6 (drop start (bitsOf s)) ≡ f .cs
-    cut-there k e = f .there ∙ rw (turns, there-cut (coded (mantBits h) g) (6 - (j + 1)) (drop (bitAt p) (bitsOf s)) k e, append-nil)
-
-  -- what stands in the two lists is what the definition names, once the codes so far are all that are there
-  pub put : (p : BitPos) (j : ℕ) (v′ : List Float) (x′ : List ℤ) (f : SoFar p j v′ x′) → codesThere (coded (mantBits h) g) 6 (drop start (bitsOf s)) ≡ f .cs
-      → (v′ ≡ sixValues h g at (drop start (bitsOf s)) v) × (x′ ≡ sixExacts h g at (drop start (bitsOf s)) x)
-  unfolding sixValues sixExacts
-  put p j v′ x′ f e = (rw e (f .values), rw e (f .exacts))
+    pub cut : (k : ℕ) → coded (mantBits h) g .dec here ≡ refused k → Answered h g at s start v x (BitMove.Refused k) v′ x′
+    cut k e =
+        let d : six (mantBits h) g .dec (drop start (bitsOf s)) ≡ refused k = f .rest ∙ rw left (resume-stop one 0 (replicate (6 - (j + 1)) 0) here (f .cs) k e) in
+        put (BitMove.Refused k) (rw d refl) (f .there ∙ rw (turns, there-cut (coded (mantBits h) g) (6 - (j + 1)) here k e, append-nil))
 
   -- all six are there
-  module _ (p : BitPos) (j : ℕ) (v′ : List Float) (x′ : List ℤ) (f : SoFar p j v′ x′) (l : 6 ≤ j) where
-    done : ScalarResult.Done p ≡ scalarAnswer (8 * length s) (six (mantBits h) g .dec (drop start (bitsOf s)))
-    done =
-        let n : replicate {A = ℕ} (6 - j) 0 ≡ [] = let z : 6 - j ≡ 0 = omega arith in ap (λ (n : ℕ). replicate {A = ℕ} n 0) z in
-        let d : six (mantBits h) g .dec (drop start (bitsOf s)) ≡ got (f .cs) (drop (bitAt p) (bitsOf s)) = f .rest ∙ rw n (resume-done one (drop (bitAt p) (bitsOf s)) (f .cs)) in
-        ap ScalarResult.Done (sym (pos-is s p (f .inside))) ∙ ap (scalarAnswer (8 * length s)) (sym d)
-
-    done-there : codesThere (coded (mantBits h) g) 6 (drop start (bitsOf s)) ≡ f .cs
-    done-there = let z : 6 - j ≡ 0 = omega arith in f .there ∙ rw (z, there-none (coded (mantBits h) g) (drop (bitAt p) (bitsOf s)), append-nil)
-
-  -- so what a loop answers with, and what it leaves, is what the definition names
-  pub all-read : (p : BitPos) (j : ℕ) (v′ : List Float) (x′ : List ℤ) → SoFar p j v′ x′ → 6 ≤ j → (q : BitPos) → q ≡ p
-      → (ScalarResult.Done q ≡ scalarAnswer (8 * length s) (six (mantBits h) g .dec (drop start (bitsOf s))))
-      × ((v′ ≡ sixValues h g at (drop start (bitsOf s)) v) × (x′ ≡ sixExacts h g at (drop start (bitsOf s)) x))
-  all-read p j v′ x′ f l q e =
-      let w = put p j v′ x′ f (done-there p j v′ x′ f l) in
-      (ap ScalarResult.Done e ∙ done p j v′ x′ f l, (w .0, w .1))
+  pub all-read : 6 ≤ j → (q : BitPos) → q ≡ p → Answered h g at s start v x (BitMove.Done q) v′ x′
+  all-read l q e =
+      let z : 6 - j ≡ 0 = omega arith in
+      let n : replicate {A = ℕ} (6 - j) 0 ≡ [] = ap (λ (n : ℕ). replicate {A = ℕ} n 0) z in
+      let d : six (mantBits h) g .dec (drop start (bitsOf s)) ≡ got (f .cs) here = f .rest ∙ rw n (resume-done one here (f .cs)) in
+      put (BitMove.Done q) (ap BitMove.Done (e ∙ sym (pos-is s p (f .inside))) ∙ ap (moveAnswer (8 * length s)) (sym d))
+      (f .there ∙ rw (z, there-none (coded (mantBits h) g) here, append-nil))
 
 -- ---- the six values put out
 counted : {A : Type 0} (F : ℕ → Format A) (n : ℕ) (cs : List A) → each-Ok F (replicate n 0) cs → length cs ≡ n
@@ -159,7 +162,8 @@ all-there F (suc n) bs rest cs e = first (λ mid rest′ ds u. all-there F n mid
     second c mid (got ds rest′) d q r = let k : c ∷ ds ≡ cs = cc in ap (λ l. c ∷ l) (r ds rest′ d) ∙ k
     second c mid (refused j) d q r = let z : _≡_ {A = ℕ} 0 1 = cc in absurd (omega arith)
 
-    first : ((mid rest′ : List Bool) (ds : List Code) → each-dec (λ (k : ℕ). F) (replicate n 0) mid ≡ got ds rest′ → codesThere F n mid ≡ ds) → (G : Got Code) → F .dec bs ≡ G → andThen G (λ c mid. andThen (each-dec (λ (k : ℕ). F) (replicate n 0) mid) (λ ds rest′. got (c ∷ ds) rest′)) ≡ got cs rest
+    first : ((mid rest′ : List Bool) (ds : List Code) → each-dec (λ (k : ℕ). F) (replicate n 0) mid ≡ got ds rest′ → codesThere F n mid ≡ ds) → (G : Got Code) → F .dec bs ≡ G
+        → andThen G (λ c mid. andThen (each-dec (λ (k : ℕ). F) (replicate n 0) mid) (λ ds rest′. got (c ∷ ds) rest′)) ≡ got cs rest
         → codeAnd G (λ mid. codesThere F n mid) ≡ cs
     first r (got c mid) d q = second c mid (each-dec (λ (k : ℕ). F) (replicate n 0) mid) refl q (λ ds rest′ u. r mid rest′ ds u)
     first r (refused j) d q = let z : _≡_ {A = ℕ} 0 1 = cc in absurd (omega arith)
@@ -168,13 +172,13 @@ module _ (h g n : ℕ) (bs : List Bool) (out : List Float) where
   abbrev shownAs : List Code → List Bool → Got (List Float)
   shownAs cs rest = got (map (valueOf h g) cs) rest
 
-  pub values-none : (k : ℕ) (G : Got (List Code)) → ScalarResult.Refused k ≡ scalarAnswer n G
-      → (ScalarResult.Refused k ≡ scalarAnswer n (andThen G shownAs)) × (out ≡ scalarsAfter out (andThen G shownAs))
+  pub values-none : (k : ℕ) (G : Got (List Code)) → BitMove.Refused k ≡ moveAnswer n G
+      → (BitMove.Refused k ≡ moveAnswer n (andThen G shownAs)) × (out ≡ scalarsAfter out (andThen G shownAs))
   values-none k (got cs rest) e = let z : _≡_ {A = ℕ} 0 1 = cc in absurd (omega arith)
   values-none k (refused j) e = (e, refl)
 
-  pub values-all : (q : BitPos) (v v′ : List Float) (G : Got (List Code)) → six (mantBits h) g .dec bs ≡ G → ScalarResult.Done q ≡ scalarAnswer n G
-      → v′ ≡ sixValues h g 0 bs v → length v ≡ 6 → (ScalarResult.Done q ≡ scalarAnswer n (andThen G shownAs)) × (v′ ≡ scalarsAfter out (andThen G shownAs))
+  pub values-all : (q : BitPos) (v v′ : List Float) (G : Got (List Code)) → six (mantBits h) g .dec bs ≡ G → BitMove.Done q ≡ moveAnswer n G
+      → v′ ≡ sixValues h g 0 bs v → length v ≡ 6 → (BitMove.Done q ≡ moveAnswer n (andThen G shownAs)) × (v′ ≡ scalarsAfter out (andThen G shownAs))
   unfolding sixValues
   values-all q v v′ (got cs rest) d e p l =
       let k = six-there (mantBits h) g bs rest cs d in

@@ -1,54 +1,27 @@
--- What reading scalar mantissas answers: a code, the six codes of a bin, and read_scalar_aht_mantissas. ATSC A/52 Annex E, 3.4.4.2.
-use Prim.Native.Nat.{ℕ, zero, suc, _*_, _-_}
+-- What reading scalar mantissas answers: a code, a bin, read_scalar_aht_mantissas. ATSC A/52 Annex E, 3.4.4.2.
+use Prim.Native.Nat.{ℕ, _*_, _-_}
 use mathlib.Core.Bool.{Bool, cond}
-use mathlib.Core.List.{List, [], _∷_, map}
+use mathlib.Core.List.{List, map}
 use lib.Dec.{eqb, leb}
 use lib.IntN.{ℤ, pos, negsuc}
 use lib.ListN.{length, drop, replicate}
 use lib.Ieee.{Float}
-use Rattle.bits.specs.Bits.{bitsOf, bitAt, posOf, splice, Inside}
-use Rattle.bits.specs.Format.{Format, Got, got, refused, andThen}
+use Rattle.bits.specs.Bits.{bitsOf, bitAt, posOf}
+use Rattle.bits.specs.Format.{Got, got, refused, andThen}
 use Rattle.tables.specs.Tables.{mantBits}
 use Rattle.gains.specs.Gains.{gainValue}
 use Rattle.levels.specs.declared.Code.{Code}
-use Rattle.levels.specs.Codes.{coded, six}
-use Rattle.levels.specs.Exact.{exactOf}
+use Rattle.levels.specs.Codes.{six}
 use Rattle.levels.specs.Value.{f0, valueOf}
 use Rattle.scalars.specs.declared.CodeResult.{CodeResult}
-use Rattle.scalars.specs.declared.ScalarResult.{ScalarResult}
+use Rattle.bits.specs.declared.BitMove.{BitMove}
+use Rattle.answers.specs.Causes as cause
 
 -- ---- the answers: document 01's number, and the values, of each case
 -- what an answer of read_code shows of the bits bs: the code and the bits behind it, or the refusal
 abbrev pub codeIn : List Bool → CodeResult → Got Code
 codeIn bs (CodeResult.Read c p) = got c (drop (bitAt p) bs)
 codeIn bs (CodeResult.Refused k) = refused k
-
--- its position is one of n bits
-abbrev pub CodeNext : ℕ → CodeResult → Type 0
-CodeNext n (CodeResult.Read c p) = Inside n p
-CodeNext n (CodeResult.Refused k) = Unit {0}
-
--- the answer to what was read of n bits: the position behind it, or the refusal
-abbrev pub scalarAnswer : {A : Type 0} → ℕ → Got A → ScalarResult
-scalarAnswer n (got a rest) = ScalarResult.Done (posOf (n - length rest))
-scalarAnswer n (refused k) = ScalarResult.Refused k
-
--- ---- the six codes of a bin
--- the codes that are there, up to n, before the bits run out
-abbrev pub codeAnd : Got Code → (List Bool → List Code) → List Code
-codeAnd (got c rest) f = c ∷ f rest
-codeAnd (refused k) f = []
-
-unfoldable pub codesThere : Format Code → ℕ → List Bool → List Code
-codesThere F zero bs = []
-codesThere F (suc n) bs = codeAnd (F .dec bs) (λ rest. codesThere F n rest)
-
--- what read_six leaves in its work lists: the values of the codes that are there, from a place on
-unfoldable pub sixValues : ℕ → ℕ → ℕ → List Bool → List Float → List Float
-sixValues h g at bs v = splice v at (map (valueOf h g) (codesThere (coded (mantBits h) g) 6 bs))
-
-unfoldable pub sixExacts : ℕ → ℕ → ℕ → List Bool → List ℤ → List ℤ
-sixExacts h g at bs x = splice x at (map (exactOf h g) (codesThere (coded (mantBits h) g) 6 bs))
 
 -- ---- read_scalar_aht_mantissas
 -- Gk: by the gain code where gaqbin is 1, else 1
@@ -70,9 +43,9 @@ unfoldable pub scalarsRead : List ℕ → ℕ → ℕ → ℕ → ℤ → ℕ �
 scalarsRead s at h mode gaqbin code =
     cond (leb mode 3)
     (cond (leb h 19)
-    (cond (leb at (8 * length s)) (binRead h (gainOf gaqbin code mode) (drop at (bitsOf s))) (refused 8))
-    (refused 4))
-    (refused 12)
+    (cond (leb at (8 * length s)) (binRead h (gainOf gaqbin code mode) (drop at (bitsOf s))) (refused cause.inputEnds))
+    (refused cause.hebapAbove19))
+    (refused cause.outOfRange)
 
 -- the output afterwards: as it was where the call refuses
 abbrev pub scalarsAfter : List Float → Got (List Float) → List Float

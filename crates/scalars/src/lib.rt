@@ -3,13 +3,17 @@ ghost use mathlib.Core.Path.{_≡_};
 ghost use Prim.Native.Nat.{_+_, _*_, _<_, _≤_};
 ghost use lib.ListN.{length, drop, replicate, set};
 ghost use Rattle.bits.specs.Bits.{bitsOf, bitAt, Inside};
+ghost use Rattle.bits.specs.Format.{got};
 ghost use Rattle.tables.specs.Tables.{mantBits};
 ghost use Rattle.levels.specs.Codes.{tagged, coded, six, Accepted};
 ghost use Rattle.levels.specs.Exact.{exactOf};
 ghost use Rattle.levels.specs.Value.{f0, valueOf};
-ghost use Rattle.levels.specs.Work.{scaleOf};
-ghost use Rattle.scalars.specs.declared.ScalarResult.{ScalarResult};
-ghost use Rattle.scalars.specs.Scalars.{codeIn, CodeNext, scalarAnswer, sixValues, sixExacts, gainOf, valuesRead, binRead, scalarsRead, scalarsAfter};
+ghost use Rattle.levels.specs.Work.{IsScale};
+ghost use Rattle.bits.specs.declared.BitMove.{BitMove};
+ghost use Rattle.bits.specs.Format.{moveAnswer};
+ghost use Rattle.scalars.specs.Scalars.{codeIn, gainOf, valuesRead, binRead, scalarsRead, scalarsAfter};
+ghost use Rattle.scalars.specs.Work.{CodeNext, sixValues, sixExacts};
+use bits::BitMove;
 use bits::BitPos;
 use levels::Code;
 use levels::CodeScale;
@@ -20,10 +24,10 @@ pub enum CodeResult {
     Refused(u8),
 }
 
-// What the readers of six codes answer: the advanced position, or the number of the refusal.
-pub enum ScalarResult {
-    Done(BitPos),
-    Refused(u8),
+// A code and how many bits it takes.
+pub struct CodeAhead {
+    pub code: Code,
+    pub bits: u32,
 }
 
 // s in w bits; the tag is followed by l in v bits.
@@ -33,19 +37,19 @@ fn read_tagged(src: &[u8], pos: BitPos, w: u32, v: u32) -> CodeResult
     ensures { λ r. ⌜ codeIn (bitsOf (now (src .entry))) r ≡ tagged w v .dec (drop (bitAt pos) (bitsOf (now (src .entry)))) ⌝ }
     ensures { λ r. ⌜ CodeNext (8 * length (now (src .entry))) r ⌝ }
 {
-    if !pos.holds(src.len(), 1, w as usize) {
-        return CodeResult::Refused(8);
+    if !pos.has_bits(src.len(), 1, w as usize) {
+        return CodeResult::Refused(answers::INPUT_ENDS);
     }
-    let s = pos.number(src, w);
-    let next = pos.after(1, w as usize);
-    if s != levels::two_to(w - 1) {
+    let s = pos.peek(src, w);
+    let next = pos.advance(1, w as usize);
+    if s != bits::pow2(w - 1) {
         return CodeResult::Read(Code::Small(s), next);
     }
-    if !next.holds(src.len(), 1, v as usize) {
-        return CodeResult::Refused(8);
+    if !next.has_bits(src.len(), 1, v as usize) {
+        return CodeResult::Refused(answers::INPUT_ENDS);
     }
-    let l = next.number(src, v);
-    CodeResult::Read(Code::Large(l), next.after(1, v as usize))
+    let l = next.peek(src, v);
+    CodeResult::Read(Code::Large(l), next.advance(1, v as usize))
 }
 
 // A code of the hebap at the gain.
@@ -57,11 +61,11 @@ pub fn read_code(src: &[u8], pos: BitPos, hebap: u8, gk: u8) -> CodeResult
 {
     let m = levels::mant(hebap);
     if gk == 1 {
-        if !pos.holds(src.len(), 1, m as usize) {
-            return CodeResult::Refused(8);
+        if !pos.has_bits(src.len(), 1, m as usize) {
+            return CodeResult::Refused(answers::INPUT_ENDS);
         }
-        let l = pos.number(src, m);
-        return CodeResult::Read(Code::Large(l), pos.after(1, m as usize));
+        let l = pos.peek(src, m);
+        return CodeResult::Read(Code::Large(l), pos.advance(1, m as usize));
     }
     read_tagged(
         src,
@@ -72,178 +76,159 @@ pub fn read_code(src: &[u8], pos: BitPos, hebap: u8, gk: u8) -> CodeResult
 }
 
 // The f32 and the exact value of a code go to the place `at`.
-fn put_values(
-    s: CodeScale,
-    hebap: u8,
-    gk: u8,
-    code: Code,
-    at: usize,
-    values: &mut [f32],
-    exact: &mut [i32],
-)
-    requires { ⌜ (8 ≤ hebap) × (hebap ≤ 19) ⌝ }
-    requires { ⌜ s ≡ scaleOf hebap gk ⌝ }
-    requires { ⌜ Accepted hebap gk code ⌝ }
+fn put_values(s: CodeScale, code: Code, at: usize, values: &mut [f32], exact: &mut [i32])
+    requires { ⌜ IsScale s ⌝ }
+    requires { ⌜ Accepted (s .hebap) (s .gk) code ⌝ }
     requires { ⌜ (at < length (now values)) × (at < length (now exact)) ⌝ }
-    ensures { λ r. ⌜ now (values .exit) ≡ set (now (values .entry)) at (valueOf hebap gk code) ⌝ }
-    ensures { λ r. ⌜ now (exact .exit) ≡ set (now (exact .entry)) at (exactOf hebap gk code) ⌝ }
+    ensures { λ r. ⌜ now (values .exit) ≡ set (now (values .entry)) at (valueOf (s .hebap) (s .gk) code) ⌝ }
+    ensures { λ r. ⌜ now (exact .exit) ≡ set (now (exact .entry)) at (exactOf (s .hebap) (s .gk) code) ⌝ }
 {
-    values[at] = levels::value_of(levels::level_of(s, hebap, gk, code));
-    exact[at] = levels::exact_value(s, hebap, gk, code);
+    values[at] = levels::value_of(levels::level_of(s, code));
+    exact[at] = levels::exact_value(s, code);
 }
 
-// Six codes of Gk 1, where all their bits are there.
+// Six codes of Gk 1, bounds-checked by the caller.
 fn read_fixed(
     s: CodeScale,
     src: &[u8],
     pos: BitPos,
-    hebap: u8,
     at: usize,
     values: &mut [f32],
     exact: &mut [i32],
 ) -> BitPos
-    requires { ⌜ (8 ≤ hebap) × (hebap ≤ 19) ⌝ }
-    requires { ⌜ s ≡ scaleOf hebap 1 ⌝ }
+    requires { ⌜ IsScale s ⌝ }
+    requires { ⌜ s .gk ≡ 1 ⌝ }
     requires { ⌜ (pos .bit < 8) × (pos .byte + 28 ≤ length (now src)) ⌝ }
     requires { ⌜ (at + 6 ≤ length (now values)) × (at + 6 ≤ length (now exact)) ⌝ }
-    ensures { λ r. ⌜ ScalarResult.Done r ≡ scalarAnswer (8 * length (now (src .entry))) (six (mantBits hebap) 1 .dec (drop (bitAt pos) (bitsOf (now (src .entry))))) ⌝ }
-    ensures { λ r. ⌜ now (values .exit) ≡ sixValues hebap 1 at (drop (bitAt pos) (bitsOf (now (src .entry)))) (now (values .entry)) ⌝ }
-    ensures { λ r. ⌜ now (exact .exit) ≡ sixExacts hebap 1 at (drop (bitAt pos) (bitsOf (now (src .entry)))) (now (exact .entry)) ⌝ }
+    ensures { λ r. ⌜ BitMove.Done r ≡ moveAnswer (8 * length (now (src .entry))) (six (mantBits (s .hebap)) (s .gk) .dec (drop (bitAt pos) (bitsOf (now (src .entry))))) ⌝ }
+    ensures { λ r. ⌜ now (values .exit) ≡ sixValues (s .hebap) (s .gk) at (drop (bitAt pos) (bitsOf (now (src .entry)))) (now (values .entry)) ⌝ }
+    ensures { λ r. ⌜ now (exact .exit) ≡ sixExacts (s .hebap) (s .gk) at (drop (bitAt pos) (bitsOf (now (src .entry)))) (now (exact .entry)) ⌝ }
 {
     let mut d: u32 = 0;
     let mut j: usize = 0;
     while j < 6 {
-        let p = pos.past(d);
-        let u = p.short_number(src, s.large);
-        values[at + j] = levels::fixed_value(s, hebap, u);
-        exact[at + j] = levels::fixed_exact(s, hebap, u);
+        let p = pos.advance_bits(d);
+        let u = p.peek_word(src, s.large);
+        values[at + j] = levels::fixed_value(s, u);
+        exact[at + j] = levels::fixed_exact(s, u);
         d += s.large;
         j += 1;
     }
-    pos.past(d)
+    pos.advance_bits(d)
 }
 
-// Six codes of another gain, where the bits of any six are there.
+// The code of another gain that stands at pos, bounds-checked by the caller.
+fn code_ahead(s: CodeScale, src: &[u8], pos: BitPos) -> CodeAhead
+    requires { ⌜ IsScale s ⌝ }
+    requires { ⌜ (s .gk ≡ 1 → ⊥) ⌝ }
+    requires { ⌜ (pos .bit < 8) × (pos .byte + 8 ≤ length (now src)) ⌝ }
+    ensures { λ r. ⌜ coded (mantBits (s .hebap)) (s .gk) .dec (drop (bitAt pos) (bitsOf (now (src .entry)))) ≡ got (r .code) (drop (bitAt pos + r .bits) (bitsOf (now (src .entry)))) ⌝ }
+    ensures { λ r. ⌜ r .bits ≤ 30 ⌝ }
+{
+    let u = pos.peek_word(src, s.small);
+    if u == bits::pow2(s.small - 1) {
+        let q = pos.advance_bits(s.small);
+        let l = q.peek_word(src, s.large);
+        return CodeAhead {
+            code: Code::Large(l),
+            bits: s.small + s.large,
+        };
+    }
+    CodeAhead {
+        code: Code::Small(u),
+        bits: s.small,
+    }
+}
+
+// Six codes of another gain, bounds-checked by the caller.
 fn read_small_or_large(
     s: CodeScale,
     src: &[u8],
     pos: BitPos,
-    hebap: u8,
-    gk: u8,
     at: usize,
     values: &mut [f32],
     exact: &mut [i32],
 ) -> BitPos
-    requires { ⌜ (8 ≤ hebap) × (hebap ≤ 19) × (gk ≡ 1 → ⊥) ⌝ }
-    requires { ⌜ s ≡ scaleOf hebap gk ⌝ }
+    requires { ⌜ IsScale s ⌝ }
+    requires { ⌜ (s .gk ≡ 1 → ⊥) ⌝ }
     requires { ⌜ (pos .bit < 8) × (pos .byte + 28 ≤ length (now src)) ⌝ }
     requires { ⌜ (at + 6 ≤ length (now values)) × (at + 6 ≤ length (now exact)) ⌝ }
-    ensures { λ r. ⌜ ScalarResult.Done r ≡ scalarAnswer (8 * length (now (src .entry))) (six (mantBits hebap) gk .dec (drop (bitAt pos) (bitsOf (now (src .entry))))) ⌝ }
-    ensures { λ r. ⌜ now (values .exit) ≡ sixValues hebap gk at (drop (bitAt pos) (bitsOf (now (src .entry)))) (now (values .entry)) ⌝ }
-    ensures { λ r. ⌜ now (exact .exit) ≡ sixExacts hebap gk at (drop (bitAt pos) (bitsOf (now (src .entry)))) (now (exact .entry)) ⌝ }
+    ensures { λ r. ⌜ BitMove.Done r ≡ moveAnswer (8 * length (now (src .entry))) (six (mantBits (s .hebap)) (s .gk) .dec (drop (bitAt pos) (bitsOf (now (src .entry))))) ⌝ }
+    ensures { λ r. ⌜ now (values .exit) ≡ sixValues (s .hebap) (s .gk) at (drop (bitAt pos) (bitsOf (now (src .entry)))) (now (values .entry)) ⌝ }
+    ensures { λ r. ⌜ now (exact .exit) ≡ sixExacts (s .hebap) (s .gk) at (drop (bitAt pos) (bitsOf (now (src .entry)))) (now (exact .entry)) ⌝ }
 {
     let mut d: u32 = 0;
     let mut j: usize = 0;
     while j < 6 {
-        let p = pos.past(d);
-        let u = p.short_number(src, s.small);
-        d += s.small;
-        if u == levels::two_to(s.small - 1) {
-            let q = pos.past(d);
-            let l = q.short_number(src, s.large);
-            d += s.large;
-            put_values(
-                s,
-                hebap,
-                gk,
-                Code::Large(l),
-                at + j,
-                &mut *values,
-                &mut *exact,
-            );
-            j += 1;
-        } else {
-            put_values(
-                s,
-                hebap,
-                gk,
-                Code::Small(u),
-                at + j,
-                &mut *values,
-                &mut *exact,
-            );
-            j += 1;
-        }
+        let p = pos.advance_bits(d);
+        let c = code_ahead(s, src, p);
+        let code = c.code;
+        put_values(s, code, at + j, &mut *values, &mut *exact);
+        d += c.bits;
+        j += 1;
     }
-    pos.past(d)
+    pos.advance_bits(d)
 }
 
-// Six codes, wherever they stand: each is asked whether it is there. Where the bits run out, the values of the codes before that stand in the
-// outputs.
+// Six codes, each bounds-checked. Where the bits run out, the values of the codes before stand in the outputs.
 fn read_each(
     s: CodeScale,
     src: &[u8],
     pos: BitPos,
-    hebap: u8,
-    gk: u8,
     at: usize,
     values: &mut [f32],
     exact: &mut [i32],
-) -> ScalarResult
-    requires { ⌜ (8 ≤ hebap) × (hebap ≤ 19) ⌝ }
-    requires { ⌜ s ≡ scaleOf hebap gk ⌝ }
+) -> BitMove
+    requires { ⌜ IsScale s ⌝ }
     requires { ⌜ Inside (8 * length (now src)) pos ⌝ }
     requires { ⌜ (at + 6 ≤ length (now values)) × (at + 6 ≤ length (now exact)) ⌝ }
-    ensures { λ r. ⌜ r ≡ scalarAnswer (8 * length (now (src .entry))) (six (mantBits hebap) gk .dec (drop (bitAt pos) (bitsOf (now (src .entry))))) ⌝ }
-    ensures { λ r. ⌜ now (values .exit) ≡ sixValues hebap gk at (drop (bitAt pos) (bitsOf (now (src .entry)))) (now (values .entry)) ⌝ }
-    ensures { λ r. ⌜ now (exact .exit) ≡ sixExacts hebap gk at (drop (bitAt pos) (bitsOf (now (src .entry)))) (now (exact .entry)) ⌝ }
+    ensures { λ r. ⌜ r ≡ moveAnswer (8 * length (now (src .entry))) (six (mantBits (s .hebap)) (s .gk) .dec (drop (bitAt pos) (bitsOf (now (src .entry))))) ⌝ }
+    ensures { λ r. ⌜ now (values .exit) ≡ sixValues (s .hebap) (s .gk) at (drop (bitAt pos) (bitsOf (now (src .entry)))) (now (values .entry)) ⌝ }
+    ensures { λ r. ⌜ now (exact .exit) ≡ sixExacts (s .hebap) (s .gk) at (drop (bitAt pos) (bitsOf (now (src .entry)))) (now (exact .entry)) ⌝ }
 {
     let mut p = pos;
     let mut j: usize = 0;
     while j < 6 {
-        let r = read_code(src, p, hebap, gk);
+        let r = read_code(src, p, s.hebap, s.gk);
         match r {
             CodeResult::Refused(k) => {
-                return ScalarResult::Refused(k);
+                return BitMove::Refused(k);
             }
             CodeResult::Read(code, next) => {
-                put_values(s, hebap, gk, code, at + j, &mut *values, &mut *exact);
+                put_values(s, code, at + j, &mut *values, &mut *exact);
                 p = next;
                 j += 1;
             }
         }
     }
-    ScalarResult::Done(p)
+    BitMove::Done(p)
 }
 
-// The six codes of a bin: their f32 and exact values go to the places from `at` on. From a bit of the first byte on six codes reach 24 bytes far at
-// most (7 + 180 bits), and four bytes are taken at once: with 28 ahead no code is asked whether it is there.
+// The six codes of a bin: their f32 and exact values go to the places from `at` on. Six codes reach 24 bytes far at
+// most (7 + 180 bits), and four bytes are read at once: 28 bytes ahead are bounds check enough for all.
 pub fn read_six(
     s: CodeScale,
     src: &[u8],
     pos: BitPos,
-    hebap: u8,
-    gk: u8,
     at: usize,
     values: &mut [f32],
     exact: &mut [i32],
-) -> ScalarResult
-    requires { ⌜ (8 ≤ hebap) × (hebap ≤ 19) ⌝ }
-    requires { ⌜ s ≡ scaleOf hebap gk ⌝ }
+) -> BitMove
+    requires { ⌜ IsScale s ⌝ }
     requires { ⌜ Inside (8 * length (now src)) pos ⌝ }
     requires { ⌜ (at + 6 ≤ length (now values)) × (at + 6 ≤ length (now exact)) ⌝ }
-    ensures { λ r. ⌜ r ≡ scalarAnswer (8 * length (now (src .entry))) (six (mantBits hebap) gk .dec (drop (bitAt pos) (bitsOf (now (src .entry))))) ⌝ }
-    ensures { λ r. ⌜ now (values .exit) ≡ sixValues hebap gk at (drop (bitAt pos) (bitsOf (now (src .entry)))) (now (values .entry)) ⌝ }
-    ensures { λ r. ⌜ now (exact .exit) ≡ sixExacts hebap gk at (drop (bitAt pos) (bitsOf (now (src .entry)))) (now (exact .entry)) ⌝ }
+    ensures { λ r. ⌜ r ≡ moveAnswer (8 * length (now (src .entry))) (six (mantBits (s .hebap)) (s .gk) .dec (drop (bitAt pos) (bitsOf (now (src .entry))))) ⌝ }
+    ensures { λ r. ⌜ now (values .exit) ≡ sixValues (s .hebap) (s .gk) at (drop (bitAt pos) (bitsOf (now (src .entry)))) (now (values .entry)) ⌝ }
+    ensures { λ r. ⌜ now (exact .exit) ≡ sixExacts (s .hebap) (s .gk) at (drop (bitAt pos) (bitsOf (now (src .entry)))) (now (exact .entry)) ⌝ }
 {
     let byte = pos.byte;
     if byte + 28 <= src.len() {
-        if gk == 1 {
-            return ScalarResult::Done(read_fixed(s, src, pos, hebap, at, values, exact));
+        if s.gk == 1 {
+            return BitMove::Done(read_fixed(s, src, pos, at, values, exact));
         }
-        return ScalarResult::Done(read_small_or_large(s, src, pos, hebap, gk, at, values, exact));
+        return BitMove::Done(read_small_or_large(s, src, pos, at, values, exact));
     }
-    read_each(s, src, pos, hebap, gk, at, values, exact)
+    read_each(s, src, pos, at, values, exact)
 }
 
 // Gk of a bin.
@@ -267,7 +252,7 @@ fn copy(from: &[f32], out: &mut [f32])
     }
 }
 
-// The six values of a bin, with room to work in: the output is written only when all six codes are there.
+// The six values of a bin, by scratch buffers: the output is written only when all six codes are there.
 fn read_values(
     src: &[u8],
     pos: BitPos,
@@ -276,25 +261,25 @@ fn read_values(
     out: &mut [f32],
     values: &mut [f32],
     exact: &mut [i32],
-) -> ScalarResult
+) -> BitMove
     requires { ⌜ (8 ≤ hebap) × (hebap ≤ 19) ⌝ }
     requires { ⌜ Inside (8 * length (now src)) pos ⌝ }
     requires { ⌜ (length (now out) ≡ 6) × (length (now values) ≡ 6) × (length (now exact) ≡ 6) ⌝ }
-    ensures { λ r. ⌜ r ≡ scalarAnswer (8 * length (now (src .entry))) (valuesRead hebap gk (drop (bitAt pos) (bitsOf (now (src .entry))))) ⌝ }
+    ensures { λ r. ⌜ r ≡ moveAnswer (8 * length (now (src .entry))) (valuesRead hebap gk (drop (bitAt pos) (bitsOf (now (src .entry))))) ⌝ }
     ensures { λ r. ⌜ now (out .exit) ≡ scalarsAfter (now (out .entry)) (valuesRead hebap gk (drop (bitAt pos) (bitsOf (now (src .entry))))) ⌝ }
 {
     let s = levels::scale_of(hebap, gk);
-    let r = read_each(s, src, pos, hebap, gk, 0, &mut *values, &mut *exact);
+    let r = read_each(s, src, pos, 0, &mut *values, &mut *exact);
     match r {
-        ScalarResult::Refused(k) => ScalarResult::Refused(k),
-        ScalarResult::Done(next) => {
+        BitMove::Refused(k) => BitMove::Refused(k),
+        BitMove::Done(next) => {
             copy(&*values, &mut *out);
-            ScalarResult::Done(next)
+            BitMove::Done(next)
         }
     }
 }
 
-// The same for any hebap up to 19, with zeros in the room to work in.
+// The same for any hebap up to 19, with zeros in the scratch buffers.
 fn read_bin(
     src: &[u8],
     pos: BitPos,
@@ -303,16 +288,16 @@ fn read_bin(
     out: &mut [f32],
     values: &mut [f32],
     exact: &mut [i32],
-) -> ScalarResult
+) -> BitMove
     requires { ⌜ hebap ≤ 19 ⌝ }
     requires { ⌜ Inside (8 * length (now src)) pos ⌝ }
     requires { ⌜ (length (now out) ≡ 6) × (now values ≡ replicate 6 f0) × (length (now exact) ≡ 6) ⌝ }
-    ensures { λ r. ⌜ r ≡ scalarAnswer (8 * length (now (src .entry))) (binRead hebap gk (drop (bitAt pos) (bitsOf (now (src .entry))))) ⌝ }
+    ensures { λ r. ⌜ r ≡ moveAnswer (8 * length (now (src .entry))) (binRead hebap gk (drop (bitAt pos) (bitsOf (now (src .entry))))) ⌝ }
     ensures { λ r. ⌜ now (out .exit) ≡ scalarsAfter (now (out .entry)) (binRead hebap gk (drop (bitAt pos) (bitsOf (now (src .entry))))) ⌝ }
 {
     if hebap < 8 {
         copy(&*values, &mut *out);
-        return ScalarResult::Done(pos);
+        return BitMove::Done(pos);
     }
     read_values(src, pos, hebap, gk, &mut *out, &mut *values, &mut *exact)
 }
@@ -327,22 +312,22 @@ fn read_with(
     out: &mut [f32],
     values: &mut [f32],
     exact: &mut [i32],
-) -> ScalarResult
+) -> BitMove
     requires { ⌜ (length (now out) ≡ 6) × (now values ≡ replicate 6 f0) × (length (now exact) ≡ 6) ⌝ }
-    ensures { λ r. ⌜ r ≡ scalarAnswer (8 * length (now (src .entry))) (scalarsRead (now (src .entry)) (bitAt pos) hebap gaqmod gaqbin «gain_code») ⌝ }
+    ensures { λ r. ⌜ r ≡ moveAnswer (8 * length (now (src .entry))) (scalarsRead (now (src .entry)) (bitAt pos) hebap gaqmod gaqbin «gain_code») ⌝ }
     ensures { λ r. ⌜ now (out .exit) ≡ scalarsAfter (now (out .entry)) (scalarsRead (now (src .entry)) (bitAt pos) hebap gaqmod gaqbin «gain_code») ⌝ }
 {
     if 3 < gaqmod {
-        return ScalarResult::Refused(12);
+        return BitMove::Refused(answers::OUT_OF_RANGE);
     }
     if 19 < hebap {
-        return ScalarResult::Refused(4);
+        return BitMove::Refused(answers::HEBAP_ABOVE_19);
     }
-    if pos.holds(src.len(), 1, 0) {
+    if pos.has_bits(src.len(), 1, 0) {
         let gk = gain_of(gaqbin, gain_code, gaqmod);
         read_bin(
             src,
-            pos.after(1, 0),
+            pos.advance(1, 0),
             hebap,
             gk,
             &mut *out,
@@ -350,11 +335,12 @@ fn read_with(
             &mut *exact,
         )
     } else {
-        ScalarResult::Refused(8)
+        BitMove::Refused(answers::INPUT_ENDS)
     }
 }
 
-// Reads the six mantissas of a bin. Refuses with 12 a mode above 3, then with 4 a hebap above 19, then with 8; a refusal leaves the output as it was.
+// Reads the six mantissas of a bin. Refuses with 12 a mode above 3, then with 4 a hebap above 19, then with 8;
+// a refusal leaves the output as it was.
 pub fn read_scalar_aht_mantissas(
     src: &[u8],
     pos: BitPos,
@@ -363,8 +349,8 @@ pub fn read_scalar_aht_mantissas(
     gaqbin: i8,
     gain_code: u8,
     out: &mut [f32; 6],
-) -> ScalarResult
-    ensures { λ r. ⌜ r ≡ scalarAnswer (8 * length (now (src .entry))) (scalarsRead (now (src .entry)) (bitAt pos) hebap gaqmod gaqbin «gain_code») ⌝ }
+) -> BitMove
+    ensures { λ r. ⌜ r ≡ moveAnswer (8 * length (now (src .entry))) (scalarsRead (now (src .entry)) (bitAt pos) hebap gaqmod gaqbin «gain_code») ⌝ }
     ensures { λ r. ⌜ now (out .exit) ≡ scalarsAfter (now (out .entry)) (scalarsRead (now (src .entry)) (bitAt pos) hebap gaqmod gaqbin «gain_code») ⌝ }
 {
     let mut values = [0.0f32; 6];

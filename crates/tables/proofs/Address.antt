@@ -13,7 +13,7 @@ use mir.Val.{SFits, Fits, toZ, ofZ}
 use mir.ValLaws.{toZ-ofZ}
 use Rattle.tables.specs.Numbers.{hebaptab}
 use Rattle.tables.specs.Tables.{address, hebapFromAddress}
-use Rattle.tables.specs.declared.HebapResult.the-variants.{Hebap, Refused}
+use Rattle.answers.specs.declared.ByteResult.the-variants.{Value, Refused}
 
 -- ---- how large a sum and a difference are
 
@@ -87,9 +87,9 @@ too-high p m f l h =
 pub record Known (p m : ℤ) : Type 0 where
   pub fits : SFits w32 (apart p m)
   pub cast : ltZ (read p m) (pos 0) ≡ false → T (nonNeg (read p m)) × Fits w64 (natAbs (read p m))
-  pub below : (h : ℕ) → h ≡ getD hebaptab 0 0 → ltZ (read p m) (pos 0) ≡ true → Hebap h ≡ hebapFromAddress p m
-  pub inside : (h : ℕ) → h ≡ getD hebaptab (natAbs (read p m) / 32) 0 → ltZ (read p m) (pos 0) ≡ false → natAbs (read p m) / 32 ≤ 63 → Hebap h ≡ hebapFromAddress p m
-  pub beyond : (h : ℕ) → h ≡ getD hebaptab 63 0 → ltZ (read p m) (pos 0) ≡ false → 63 < natAbs (read p m) / 32 → Hebap h ≡ hebapFromAddress p m
+  pub below : (h : ℕ) → h ≡ getD hebaptab 0 0 → ltZ (read p m) (pos 0) ≡ true → Value h ≡ hebapFromAddress p m
+  pub inside : (h : ℕ) → h ≡ getD hebaptab (natAbs (read p m) / 32) 0 → ltZ (read p m) (pos 0) ≡ false → natAbs (read p m) / 32 ≤ 63 → Value h ≡ hebapFromAddress p m
+  pub beyond : (h : ℕ) → h ≡ getD hebaptab 63 0 → ltZ (read p m) (pos 0) ≡ false → 63 < natAbs (read p m) / 32 → Value h ≡ hebapFromAddress p m
 
 pub known : (p m : ℤ) → SFits w16 p → SFits w32 m → ltZ (held w32 m) (negsuc 65535) ≡ false → ltZ (pos 65536) (held w32 m) ≡ false → Known p m
 unfolding hebapFromAddress
@@ -100,7 +100,7 @@ known p m fp fm l h =
     let u = fp .sfits in
     let small : SFits w32 (p -ℤ m) = record { sfits = omega (arith, add-mag p (negℤ m), neg-mag m, mask-mag m low high) } in
     let back : read p m ≡ p -ℤ m = rw same (toZ-ofZ w32 (p -ℤ m) small) in
-    let answer : (h a : ℕ) → h ≡ getD hebaptab a 0 → a ≡ address (read p m) → Hebap h ≡ hebapFromAddress p m = λ h a e f. rw (low, high, e, f, back) in
+    let answer : (h a : ℕ) → h ≡ getD hebaptab a 0 → a ≡ address (read p m) → Value h ≡ hebapFromAddress p m = λ h a e f. rw (low, high, e, f, back) in
     record {
       fits = rw same small;
       cast = cast-of (read p m) (rw back small);

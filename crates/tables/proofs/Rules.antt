@@ -1,18 +1,16 @@
--- What holds of the tables at every hebap and every place: the `tt` in a lemma is its test of the whole table. Assumes nothing.
+-- What holds of the tables at every hebap: the `tt` in a lemma is its test of the whole table. Assumes nothing.
 use Prim.Native.Nat.{ℕ, _+_, _-_, _*_, _^_, _≤_, _<_}
-use mathlib.Core.Path.{_≡_, ap}
-use mathlib.Core.Bool.{Bool, true, false, _&&_}
-use mathlib.Core.List.{[]}
+use mathlib.Core.Path.{_≡_}
+use mathlib.Core.Bool.{Bool, _&&_}
 use mathlib.Core.Logic.{_⊎_, inl, inr}
 use native.Mathlib.Omega.{arith}
-use borrow.Author.Tests.{ltb-true, ne-eqb}
 use lib.Dec.{T, eqb, leb, ltb, eqb→eq, leb→le, ltb→lt}
 use lib.IntN.{ℤ, pos}
-use lib.ListN.{length, getD, List·getD-eq-default}
+use lib.ListN.{length, List·getD-eq-default}
 use lib.Signed.{mag}
-use Rattle.tables.specs.Numbers.{hebaptab, mantBitsTable, vqBitsTable, gaqRemapTable, vqHebap1, vqHebap2, vqHebap3, vqHebap4, vqHebap5, vqHebap6, vqHebap7}
+use Rattle.tables.specs.Numbers.{mantBitsTable, vqBitsTable, gaqRemapTable, vqHebap1, vqHebap2, vqHebap3, vqHebap4, vqHebap5, vqHebap6, vqHebap7}
 use Rattle.tables.specs.Tables.{mantBits, vqBits, gaqRemapAt, book}
-use Rattle.tables.proofs.Tests.{lt-or-le, and-parts, every-at, each, each-at}
+use Rattle.tables.proofs.Tests.{and-parts, every-at, each-at}
 
 abbrev between : ℕ → ℕ → ℕ → Bool
 between a b n = leb a n && leb n b
@@ -39,16 +37,11 @@ pub vq-most : (h : ℕ) → vqBits h ≤ 9
 unfolding vqBits vqBitsTable
 vq-most h = leb→le (vqBits h) 9 (each-at (λ n. leb n 9) vqBitsTable tt 0 tt h)
 
-pub vq-none : (h : ℕ) → (h ≡ 0) ⊎ (8 ≤ h) → vqBits h ≡ 0
+pub vq-none : (h : ℕ) → 8 ≤ h → vqBits h ≡ 0
 unfolding vqBits vqBitsTable
-vq-none h (inl e) = ap vqBits e
-vq-none h (inr l) = List·getD-eq-default vqBitsTable 0 l
+vq-none h l = List·getD-eq-default vqBitsTable 0 l
 
--- ---- hebaptab and GAQ_REMAP
-
-pub hebap-most : (i : ℕ) → getD hebaptab i 0 ≤ 19
-unfolding hebaptab
-hebap-most i = leb→le (getD hebaptab i 0) 19 (each-at (λ n. leb n 19) hebaptab tt 0 tt i)
+-- ---- GAQ_REMAP
 
 -- a number of 16 bits with its sign
 abbrev fits : ℤ → Bool
@@ -66,22 +59,3 @@ unfolding book vqBits vqBitsTable vqHebap1 vqHebap2 vqHebap3 vqHebap4 vqHebap5 v
 book-size h l u =
     eqb→eq (length (book h)) (6 * 2 ^ vqBits h)
     (every-at (λ k. eqb (length (book k)) (6 * 2 ^ vqBits k)) 7 1 h tt l (omega arith))
-
-pub book-none : (h : ℕ) → (h ≡ 0) ⊎ (8 ≤ h) → book h ≡ []
-unfolding book
-book-none h (inl e) = rw e
-book-none h (inr l) = simp other
-  where
-    other : (k : ℕ) → ltb k 8 ≡ true → eqb h k ≡ false
-    other k u = ne-eqb h k (λ e. let v = ltb-true k 8 u in omega arith)
-
-book-fits : (h : ℕ) → h < 8 → T (each fits (book h))
-unfolding book vqHebap1 vqHebap2 vqHebap3 vqHebap4 vqHebap5 vqHebap6 vqHebap7
-book-fits h u = every-at (λ k. each fits (book k)) 8 0 h tt (omega arith) u
-
-pub entry-fits : (h i : ℕ) → mag (getD (book h) i (pos 0)) < 2 ^ 15
-entry-fits h i =
-    elim (lt-or-le h 8) [
-      | inl u ↦ ltb→lt (mag (getD (book h) i (pos 0))) (2 ^ 15) (each-at fits (book h) (book-fits h u) (pos 0) tt i)
-      | inr l ↦ rw (book-none h (inr l)) (omega arith)
-    ]

@@ -1,15 +1,15 @@
 -- Gains that a mode allows stand in gain words. Assumes nothing.
-use Prim.Native.Nat.{ℕ, zero, suc, _+_, _*_, _/_, _%_, _≤_, _<_}
+use Prim.Native.Nat.{ℕ, zero, suc, _≤_, _<_}
 use mathlib.Core.Path.{_≡_, refl, sym, _∙_, subst}
 use mathlib.Core.List.{List, [], _∷_}
 use mathlib.Core.Bool.{Bool, true, false, true≢false, _||_}
 use native.Mathlib.Omega.{arith}
 use lib.ListN.{length, getD, replicate}
-use lib.Dec.{eqb, T, le→leb}
+use lib.Dec.{eqb, le→leb}
 use borrow.Author.Tests.{eqb-true}
 use Rattle.bits.specs.Format.{number, each-Ok}
-use Rattle.gains.specs.Gains.{gainValue, otherGains, member, allowedGain}
-use Rattle.field.specs.Field.{gainCode, gainBit, groupWord, packed, groupWords, gainWords}
+use Rattle.gains.specs.Gains.{gainValue, otherGains, member, allowedGain, firstCode, secondCode, thirdCode, groupOf}
+use Rattle.channel.specs.Field.{gainCode, gainBit, grpgain, packed, groupWords, gainWords}
 
 -- what holds of each number of a list holds of a member
 abbrev Each : (ℕ → Type 0) → List ℕ → Type 0
@@ -36,12 +36,13 @@ bits-ok mode (suc n) (g ∷ gs) l a = (a 0 (omega arith), bits-ok mode n gs (ome
 abbrev Coded : ℕ → Type 0
 Coded g = (gainCode g 3 ≤ 2) × (gainValue (gainCode g 3) 3 ≡ g)
 
-word-ok : (w : ℕ) → w ≤ 26 → groupWord .Ok w
+word-ok : (w : ℕ) → w ≤ 26 → grpgain .Ok w
 unfolding number
 word-ok w h = (omega arith, le→leb w 26 h)
 
-zero-test : (n : ℕ) → n ≡ 0 → T (eqb n 0)
-zero-test n e = rw e tt
+-- the codes of a word are those that it was made of
+codes-back : (a b c : ℕ) → a ≤ 2 → b ≤ 2 → c ≤ 2 → (firstCode (groupOf a b c) ≡ a) × (secondCode (groupOf a b c) ≡ b) × (thirdCode (groupOf a b c) ≡ c)
+codes-back a b c p q r = (omega arith, omega arith, omega arith)
 
 groups-ok : (n : ℕ) (gs : List ℕ) → length gs ≡ n → ((i : ℕ) → i < length gs → Coded (getD gs i 0)) → groupWords n .Ok gs
 unfolding groupWords
@@ -51,9 +52,8 @@ groups-ok (suc zero) [] l a = absurd (omega arith)
 groups-ok (suc zero) (x ∷ []) l a =
     let i = a 0 (omega arith) in
     let p = i .0 in
-    let d : 9 * gainCode x 3 / 9 ≡ gainCode x 3 = omega arith in
-    let z : 9 * gainCode x 3 % 9 ≡ 0 = omega arith in
-    ((word-ok (packed (x ∷ [])) (omega arith), zero-test _ z), rw (d, i .1))
+    let w = codes-back (gainCode x 3) 0 0 p (omega arith) (omega arith) in
+    ((word-ok (packed (x ∷ [])) (omega arith), rw (w .1, w .2) tt), rw (w .0, i .1))
 groups-ok (suc zero) (x ∷ y ∷ gs) l a = absurd (omega arith)
 groups-ok (suc (suc zero)) [] l a = absurd (omega arith)
 groups-ok (suc (suc zero)) (x ∷ []) l a = absurd (omega arith)
@@ -62,10 +62,8 @@ groups-ok (suc (suc zero)) (x ∷ y ∷ []) l a =
     let j = a 1 (omega arith) in
     let p = i .0 in
     let q = j .0 in
-    let d : (9 * gainCode x 3 + 3 * gainCode y 3) / 9 ≡ gainCode x 3 = omega arith in
-    let f : (9 * gainCode x 3 + 3 * gainCode y 3) % 9 / 3 ≡ gainCode y 3 = omega arith in
-    let z : (9 * gainCode x 3 + 3 * gainCode y 3) % 3 ≡ 0 = omega arith in
-    ((word-ok (packed (x ∷ y ∷ [])) (omega arith), zero-test _ z), rw (d, f, i .1, j .1))
+    let w = codes-back (gainCode x 3) (gainCode y 3) 0 p q (omega arith) in
+    ((word-ok (packed (x ∷ y ∷ [])) (omega arith), rw (w .2) tt), rw (w .0, w .1, i .1, j .1))
 groups-ok (suc (suc zero)) (x ∷ y ∷ z ∷ gs) l a = absurd (omega arith)
 groups-ok (suc (suc (suc n))) [] l a = absurd (omega arith)
 groups-ok (suc (suc (suc n))) (x ∷ []) l a = absurd (omega arith)
@@ -77,10 +75,8 @@ groups-ok (suc (suc (suc n))) (x ∷ y ∷ z ∷ gs) l a =
     let p = i .0 in
     let q = j .0 in
     let r = k .0 in
-    let d : (9 * gainCode x 3 + 3 * gainCode y 3 + gainCode z 3) / 9 ≡ gainCode x 3 = omega arith in
-    let f : (9 * gainCode x 3 + 3 * gainCode y 3 + gainCode z 3) % 9 / 3 ≡ gainCode y 3 = omega arith in
-    let e : (9 * gainCode x 3 + 3 * gainCode y 3 + gainCode z 3) % 3 ≡ gainCode z 3 = omega arith in
-    ((word-ok (packed (x ∷ y ∷ z ∷ gs)) (omega arith), groups-ok n gs (omega arith) (λ m u. a (suc (suc (suc m))) (omega arith))), rw (d, f, e, i .1, j .1, k .1))
+    let w = codes-back (gainCode x 3) (gainCode y 3) (gainCode z 3) p q r in
+    ((word-ok (packed (x ∷ y ∷ z ∷ gs)) (omega arith), groups-ok n gs (omega arith) (λ m u. a (suc (suc (suc m))) (omega arith))), rw (w .0, w .1, w .2, i .1, j .1, k .1))
 
 -- ---- any mode
 pub gains-ok : (mode n : ℕ) (gs : List ℕ) → mode ≤ 3 → (mode ≡ 0 → n ≡ 0) → length gs ≡ n → ((i : ℕ) → i < length gs → allowedGain mode (getD gs i 0) ≡ true) → gainWords mode n .Ok gs

@@ -1,10 +1,6 @@
-pub mod Runs
+pub mod Turns
+pub mod Words
 pub mod Allowed
 pub mod Channel
-pub mod Turns
-pub mod Six
-pub mod GainBits
-pub mod Words
-pub mod Items
-pub mod Bins
 pub mod Call
+pub mod Planned

@@ -1,18 +1,17 @@
 -- What a call that writes does, in terms of plain numbers and lists. Assumes nothing.
-use Prim.Native.Nat.{ℕ, zero, suc, _+_, _*_, _/_, _%_, _^_, _≤_, _<_}
-use mathlib.Core.Path.{_≡_, refl, sym, ap, _∙_}
+use Prim.Native.Nat.{ℕ, _+_, _*_, _/_, _%_, _^_, _≤_, _<_}
+use mathlib.Core.Path.{_≡_, refl, sym, ap, _∙_, subst}
 use mathlib.Core.Bool.{Bool, true, false, cond}
-use mathlib.Core.List.{List, [], _∷_, _++_, append-assoc, append-nil}
-use native.Mathlib.Nat.{add-assoc}
+use mathlib.Core.List.{List, [], _++_, append-assoc, append-nil}
 use native.Mathlib.Omega.{arith}
 use borrow.Author.Tests.{eq-eqb, ne-eqb, eqb-true, eqb-false}
 use lib.Dec.{eqb}
-use lib.ListN.{length, length-append, replicate}
-use Rattle.bits.specs.Bits.{bitsN, bitAt, posOf, bytesWith}
-use Rattle.bits.specs.Format.{Format, number, each-enc}
+use lib.ListN.{length, length-append}
+use Rattle.bits.specs.Bits.{bitsN, bitAt, posOf}
+use Rattle.bits.specs.Format.{number}
 use Rattle.bits.specs.declared.BitPos.{BitPos}
-use Rattle.bits.specs.declared.BitWrite.{BitWrite}
-use Rattle.bits.specs.declared.BitWrite.the-variants.{Done}
+use Rattle.bits.specs.declared.BitMove.{BitMove}
+use Rattle.bits.specs.declared.BitMove.the-variants.{Done}
 use Rattle.bits.proofs.Laws.{Bytes, bitsN-cat, length-with, with-none, with-more}
 use Rattle.tables.specs.Tables.{mantBits}
 use Rattle.tables.proofs.Rules.{mant-bits}
@@ -21,12 +20,13 @@ use Rattle.levels.specs.Codes.{tag, smallBits, largeBits, codeBits, tagged, cod
 use Rattle.levels.specs.Work.{wordOf}
 use Rattle.levels.proofs.CodeLaws.{coded-one, coded-tagged}
 use Rattle.levels.proofs.Signed.{small-width, large-width}
+use Rattle.writer.specs.Work.{Room, Puts}
 
 -- ---- the answer of write_u32
-pub same-done : (r : BitWrite) (p q : BitPos) → r ≡ Done p → r ≡ Done q → p ≡ q
+pub same-done : (r : BitMove) (p q : BitPos) → r ≡ Done p → r ≡ Done q → p ≡ q
 same-done r p q e f = cc
 
-pub not-refused : (r : BitWrite) (k : ℕ) (q : BitPos) → r ≡ BitWrite.Refused k → r ≡ Done q → ⊥
+pub not-refused : (r : BitMove) (k : ℕ) (q : BitPos) → r ≡ BitMove.Refused k → r ≡ Done q → ⊥
 not-refused r k q e f = let z : _≡_ {A = ℕ} 0 1 = cc in omega arith
 
 pub bit-of : (k : ℕ) → bitAt (posOf k) ≡ k
@@ -69,48 +69,6 @@ word-width h g c low high =
     go (Code.Small u) p q r = omega arith
     go (Code.Large u) p q r = either (mantBits h) (smallBits (mantBits h) g) (largeBits (mantBits h) g) (eqb g 1) p q r
 
--- two writes, one behind the other
-pub both-put : (s t u : List ℕ) (at n n′ : ℕ) (q r : BitPos) (a b : List Bool) → length a ≡ n → length b ≡ n′ → at + (n + n′) ≤ 8 * length s
-    → (bitAt q ≡ at + n) × (t ≡ bytesWith s at a) → (r ≡ posOf (bitAt q + n′)) × (u ≡ bytesWith t (bitAt q) b)
-    → (r ≡ posOf (at + (n + n′))) × (u ≡ bytesWith s at (a ++ b))
-both-put s t u at n n′ q r a b l l′ h first then =
-    (then .0 ∙ ap posOf (ap (λ (k : ℕ). k + n′) (first .0) ∙ add-assoc at n n′), then .1 ∙ rw (first .1, first .0, ← l) (with-more s a b at (omega arith)))
-
--- ---- a loop that writes: what stands in the bytes so far, and where it goes on
-pub record Wrote (s out : List ℕ) (p q : BitPos) (bits : List Bool) : Type 0 where
-  pub long : length out ≡ length s
-  pub place : bitAt q ≡ bitAt p + length bits
-  pub bytes : out ≡ bytesWith s (bitAt p) bits
-
-pub wrote-none : (s : List ℕ) (p : BitPos) → Bytes s → Wrote s s p p []
-wrote-none s p b = record { long = refl; place = omega arith; bytes = sym (with-none s (bitAt p) b) }
-
-pub wrote-more : (s out out′ : List ℕ) (p q q′ : BitPos) (a b : List Bool) (n : ℕ) → length b ≡ n → bitAt p + (length a + n) ≤ 8 * length s → Wrote s out p q a
-    → (q′ ≡ posOf (bitAt q + n)) × (out′ ≡ bytesWith out (bitAt q) b) → Wrote s out′ p q′ (a ++ b)
-wrote-more s out out′ p q q′ a b n l room w h =
-    let k = both-put s out out′ (bitAt p) (length a) n q q′ a b refl l room (w .place, w .bytes) h in
-    record {
-      long = ap length (k .1) ∙ length-with s (bitAt p) (a ++ b);
-      place = ap bitAt (k .0) ∙ bit-of (bitAt p + (length a + n)) ∙ rw (length-append, l);
-      bytes = k .1;
-    }
-
--- one element more, of those that each-enc writes alike
-module _ {A : Type 0} (F : Format A) where
-  abbrev pub alike : ℕ → List A → List Bool
-  alike n v = each-enc (λ (k : ℕ). F) (replicate n 0) v
-
-  pub alike-none : (n : ℕ) → alike n [] ≡ []
-  unfolding each-enc
-  alike-none zero = refl
-  alike-none (suc n) = refl
-
-  pub alike-more : (n : ℕ) (v : List A) (x : A) → length v < n → alike n (v ++ (x ∷ [])) ≡ alike n v ++ F .enc x
-  unfolding each-enc
-  alike-more zero v x l = absurd (omega arith)
-  alike-more (suc n) [] x l = rw (alike-none n) (append-nil (F .enc x))
-  alike-more (suc n) (y ∷ v) x l = rw (alike-more n v x (omega arith)) (sym (append-assoc (F .enc y) (alike n v) (F .enc x)))
-
 -- what a write answers is the position of its bit
 pub named : (q : BitPos) (k : ℕ) → q ≡ posOf k → q ≡ posOf (bitAt q)
 named q k e = e ∙ ap posOf (sym (bit-of k) ∙ sym (ap bitAt e))
@@ -120,3 +78,67 @@ own p h =
     let b : p .byte ≡ bitAt p / 8 = omega arith in
     let c : p .bit ≡ bitAt p % 8 = omega arith in
     λ i. record { byte = b i; bit = c i }
+
+pub bit-small : (q : BitPos) → q ≡ posOf (bitAt q) → q .bit < 8
+bit-small q e = rw e (omega arith)
+
+-- ---- bits put, none and one list behind the other
+pub puts-none : (s : List ℕ) (p : BitPos) → Bytes s → p .bit < 8 → Puts [] p p s s
+puts-none s p b h = record { place = own p h ∙ ap posOf (omega arith); bytes = sym (with-none s (bitAt p) b) }
+
+module _ {a : List Bool} {p q : BitPos} {s t : List ℕ} (f : Puts a p q s t) where
+  pub place-is : bitAt q ≡ bitAt p + length a
+  place-is = ap bitAt (f .place) ∙ bit-of (bitAt p + length a)
+
+  pub puts-long : length t ≡ length s
+  puts-long = ap length (f .bytes) ∙ length-with s (bitAt p) a
+
+  pub puts-bit : q .bit < 8
+  puts-bit = bit-small q (named q (bitAt p + length a) (f .place))
+
+  pub puts-both : (b : List Bool) (r : BitPos) (u : List ℕ) → bitAt p + (length a + length b) ≤ 8 * length s → Puts b q r t u → Puts (a ++ b) p r s u
+  puts-both b r u room g =
+      let k = place-is in
+      let n = length-append a b in
+      record {
+        place = g .place ∙ ap posOf (omega arith);
+        bytes = g .bytes ∙ rw (f .bytes, k) (with-more s a b (bitAt p) room);
+      }
+
+-- ---- a loop that writes a list of bits: what is written, and what is left of the whole
+pub record Left (s out : List ℕ) (p q : BitPos) (rest whole : List Bool) : Type 0 where
+  pub before : List Bool
+  pub wrote : Puts before p q s out
+  pub parts : before ++ rest ≡ whole
+
+pub left-all : (s : List ℕ) (p : BitPos) (whole : List Bool) → Bytes s → p .bit < 8 → Left s s p p whole whole
+left-all s p whole b h = record { before = []; wrote = puts-none s p b h; parts = refl }
+
+-- what a turn writes, and what is left behind it
+pub record Next (rest b rest′ : List Bool) : Type 0 where
+  pub is : rest ≡ b ++ rest′
+
+module _ {s out : List ℕ} {p q : BitPos} {rest whole b rest′ : List Bool} (l : Left s out p q rest whole) (r : Next rest b rest′) (room : Room whole p s) where
+  left-long : length (l .before) + (length b + length rest′) ≡ length whole
+  left-long = ap (λ (k : ℕ). length (l .before) + k) (sym (length-append b rest′) ∙ sym (ap length (r .is))) ∙ sym (length-append (l .before) rest) ∙ ap length (l .parts)
+
+  pub left-room : Room b q out
+  left-room =
+      let k = left-long in
+      let f = puts-long (l .wrote) in
+      let g = place-is (l .wrote) in
+      omega arith
+
+  pub left-next : (out′ : List ℕ) (q′ : BitPos) → Puts b q q′ out out′ → Left s out′ p q′ rest′ whole
+  left-next out′ q′ w =
+      let k = left-long in
+      record {
+        before = l .before ++ b;
+        wrote = puts-both (l .wrote) b q′ out′ (omega arith) w;
+        parts = append-assoc (l .before) b rest′ ∙ ap (λ (t : List Bool). l .before ++ t) (sym (r .is)) ∙ l .parts;
+      }
+
+pub left-none : {s out : List ℕ} {p q : BitPos} {rest whole : List Bool} → Left s out p q rest whole → rest ≡ [] → Puts whole p q s out
+left-none {s} {out} {p} {q} l r =
+    let a : l .before ≡ _ = sym (append-nil (l .before)) ∙ ap (λ (t : List Bool). l .before ++ t) (sym r) ∙ l .parts in
+    subst (λ (bs : List Bool). Puts bs p q s out) a (l .wrote)

@@ -1,59 +1,64 @@
--- Group words, one at a time. Assumes nothing.
-use Prim.Native.Nat.{ℕ, suc, _+_, _-_, _*_, _/_, _≤_, _<_}
+-- What the loops write, one turn at a time: gain bits, group words, the codes of a bin, the bins. Assumes nothing.
+use Prim.Native.Nat.{ℕ, zero, suc, _+_, _^_, _≤_, _<_}
 use mathlib.Core.Path.{_≡_, refl, sym, ap, _∙_}
 use mathlib.Core.Bool.{Bool, true, false, cond}
-use mathlib.Core.List.{List, [], _∷_, _++_, append-nil, append-assoc}
+use mathlib.Core.List.{List, [], _∷_, _++_, append-nil}
+use native.Mathlib.Numerals.{add-one}
 use native.Mathlib.Omega.{arith}
 use lib.Dec.{eqb}
-use lib.ListN.{length, getD, drop, length-append, drop-of-length-le}
+use lib.Ieee.{Float, nan, inf, lt}
+use lib.Pow.{pow-mono}
+use lib.ListN.{length, getD, drop, replicate, drop-of-length-le}
 use lib.Seq.{drop-cons, drop-drop}
-use Rattle.bits.specs.Bits.{bitsN, bitAt, posOf, bytesWith}
-use Rattle.bits.specs.Format.{number}
-use Rattle.bits.specs.declared.BitPos.{BitPos}
-use Rattle.bits.proofs.Laws.{Bytes, length-bitsN}
-use Rattle.field.specs.Field.{gainCode, packed, groupWords}
-use Rattle.writer.proofs.Turns.{Wrote, wrote-none, wrote-more, named}
+use Rattle.bits.specs.Bits.{bitsN}
+use Rattle.bits.specs.Format.{number, each-enc}
+use Rattle.tables.specs.Tables.{vqBits, book}
+use Rattle.tables.proofs.Rules.{vq-most}
+use Rattle.gains.specs.Gains.{groupOf}
+use Rattle.books.specs.Books.{distanceOf, searchFrom, nearestIn, searchOf}
+use Rattle.channel.specs.Row.{sixOf}
+use Rattle.channel.specs.Field.{gainCode, packed, groupWords, gainWords, lenient, binAt}
+use Rattle.channel.proofs.Over.{over-next, over-end}
+use Rattle.quantiser.specs.Quantise.{picked}
+use Rattle.writer.specs.Written.{codesOf, writtenAt}
+use Rattle.writer.specs.Work.{binEnc, binsEnc, gainsEnc, codeFrom}
 
--- ---- a loop that writes a list of bits: what is left of the whole
-pub record Left (s out : List ℕ) (p q : BitPos) (rest whole : List Bool) : Type 0 where
-  pub before : List Bool
-  pub wrote : Wrote s out p q before
-  pub name : q ≡ posOf (bitAt q)
-  pub parts : before ++ rest ≡ whole
+-- a list from its place i on: the element there, and the rest
+from-here : {A : Type 0} (l : List A) (i : ℕ) (d : A) → i < length l → drop i l ≡ getD l i d ∷ drop (i + 1) l
+from-here l i d h = drop-cons l i d h ∙ ap (λ (k : ℕ). getD l i d ∷ drop k l) (sym (add-one i))
 
-pub left-all : (s : List ℕ) (p : BitPos) (whole : List Bool) → Bytes s → p ≡ posOf (bitAt p) → Left s s p p whole whole
-left-all s p whole b e = record { before = []; wrote = wrote-none s p b; name = e; parts = refl }
+-- ---- gain words
+pub words-zero : (mode : ℕ) (gs : List ℕ) → mode ≡ 0 → gainsEnc mode gs ≡ []
+unfolding gainWords
+words-zero mode gs e = rw e
 
-module _ {s out : List ℕ} {p q : BitPos} {rest whole : List Bool} (l : Left s out p q rest whole) where
-  pub left-long : length (l .before) + length rest ≡ length whole
-  left-long = sym (length-append (l .before) rest) ∙ ap length (l .parts)
+module _ (mode : ℕ) (m : (1 ≤ mode) × (mode ≤ 2)) where
+  bits-first : (g : ℕ) (gs : List ℕ) → gainsEnc mode (g ∷ gs) ≡ bitsN 1 (gainCode g mode) ++ gainsEnc mode gs
+  unfolding gainWords number each-enc
+  bits-first g gs = go mode m
+    where
+      go : (mode : ℕ) → (1 ≤ mode) × (mode ≤ 2) → gainsEnc mode (g ∷ gs) ≡ bitsN 1 (gainCode g mode) ++ gainsEnc mode gs
+      go zero m = absurd (omega arith)
+      go (suc zero) m = refl
+      go (suc (suc zero)) m = refl
+      go (suc (suc (suc k))) m = absurd (omega arith)
 
-  pub left-room : (b rest′ : List Bool) (n : ℕ) → length b ≡ n → rest ≡ b ++ rest′ → bitAt p + length whole ≤ 8 * length s → bitAt q + n ≤ 8 * length out
-  left-room b rest′ n e r h =
-      let k = left-long in
-      let m : length rest ≡ length b + length rest′ = ap length r ∙ length-append b rest′ in
-      let f = l .wrote .long in
-      let g = l .wrote .place in
-      omega arith
+  bits-none : gainsEnc mode [] ≡ []
+  unfolding gainWords each-enc
+  bits-none = go mode m
+    where
+      go : (mode : ℕ) → (1 ≤ mode) × (mode ≤ 2) → gainsEnc mode [] ≡ []
+      go zero m = absurd (omega arith)
+      go (suc zero) m = refl
+      go (suc (suc zero)) m = refl
+      go (suc (suc (suc k))) m = absurd (omega arith)
 
-  pub left-next : (out′ : List ℕ) (q′ : BitPos) (b rest′ : List Bool) (n : ℕ) → length b ≡ n → rest ≡ b ++ rest′ → bitAt p + length whole ≤ 8 * length s
-      → (q′ ≡ posOf (bitAt q + n)) × (out′ ≡ bytesWith out (bitAt q) b) → Left s out′ p q′ rest′ whole
-  left-next out′ q′ b rest′ n e r h w =
-      let k = left-long in
-      let m : length rest ≡ length b + length rest′ = ap length r ∙ length-append b rest′ in
-      record {
-        before = l .before ++ b;
-        wrote = wrote-more s out out′ p q q′ (l .before) b n e (omega arith) (l .wrote) w;
-        name = named q′ (bitAt q + n) (w .0);
-        parts = append-assoc (l .before) b rest′ ∙ ap (λ (t : List Bool). l .before ++ t) (sym r) ∙ l .parts;
-      }
+  pub bits-next : (gs : List ℕ) (j c : ℕ) → c ≡ gainCode (getD gs j 0) mode → j < length gs → gainsEnc mode (drop j gs) ≡ bitsN 1 c ++ gainsEnc mode (drop (j + 1) gs)
+  bits-next gs j c e h = ap (gainsEnc mode) (from-here gs j 0 h) ∙ bits-first (getD gs j 0) (drop (j + 1) gs) ∙ rw e
 
-  pub left-none : (n : ℕ) → length whole ≡ n → rest ≡ [] → (q ≡ posOf (bitAt p + n)) × (out ≡ bytesWith s (bitAt p) whole)
-  left-none n e r =
-      let a : l .before ≡ whole = sym (append-nil (l .before)) ∙ ap (λ (t : List Bool). l .before ++ t) (sym r) ∙ l .parts in
-      (l .name ∙ ap posOf (l .wrote .place ∙ ap (λ (k : ℕ). bitAt p + k) (ap length a ∙ e)), l .wrote .bytes ∙ ap (bytesWith s (bitAt p)) a)
+  pub bits-end : (gs : List ℕ) (j : ℕ) → length gs ≤ j → gainsEnc mode (drop j gs) ≡ []
+  bits-end gs j h = ap (gainsEnc mode) (drop-of-length-le gs h) ∙ bits-none
 
--- ---- the code of a gain, by the tests
 pub code-small : (r g mode : ℕ) → r ≡ gainCode g mode → r ≤ 2
 code-small r g mode e = rw e (go (eqb g 1) (eqb mode 3) (eqb g 2))
   where
@@ -63,59 +68,74 @@ code-small r g mode e = rw e (go (eqb g 1) (eqb mode 3) (eqb g 2))
     go false true false = omega arith
     go false false c = omega arith
 
--- ---- mode 3
-abbrev pub wordsFor : List ℕ → List Bool
-wordsFor gs = groupWords (length gs) .enc gs
+pub from-small : (r : ℕ) (gs : List ℕ) → r ≡ codeFrom gs → r ≤ 2
+from-small r [] e = omega arith
+from-small r (g ∷ gs) e = code-small r g 3 e
 
-words-first : (gs : List ℕ) → 1 ≤ length gs → wordsFor gs ≡ bitsN 5 (packed gs) ++ wordsFor (drop 3 gs)
-unfolding groupWords number
+-- the word of gains, by their codes
+packed-codes : (gs : List ℕ) → 1 ≤ length gs → groupOf (codeFrom gs) (codeFrom (drop 1 gs)) (codeFrom (drop 2 gs)) ≡ packed gs
+packed-codes [] h = absurd (omega arith)
+packed-codes (x ∷ []) h = refl
+packed-codes (x ∷ y ∷ []) h = refl
+packed-codes (x ∷ y ∷ z ∷ gs) h = refl
+
+pub word-is : (gs : List ℕ) (i a b c : ℕ) → i < length gs → a ≡ codeFrom (drop i gs) → b ≡ codeFrom (drop (i + 1) gs) → c ≡ codeFrom (drop (i + 2) gs)
+    → groupOf a b c ≡ packed (drop i gs)
+word-is gs i a b c h ea eb ec =
+    let l = ap length (from-here gs i 0 h) in
+    rw (ea, eb, ec, ← drop-drop 1 i gs, ← drop-drop 2 i gs) (packed-codes (drop i gs) (omega arith))
+
+words-first : (gs : List ℕ) → 1 ≤ length gs → gainsEnc 3 gs ≡ bitsN 5 (packed gs) ++ gainsEnc 3 (drop 3 gs)
+unfolding gainWords groupWords number
 words-first [] h = absurd (omega arith)
 words-first (x ∷ []) h = sym (append-nil (bitsN 5 (packed (x ∷ []))))
 words-first (x ∷ y ∷ []) h = sym (append-nil (bitsN 5 (packed (x ∷ y ∷ []))))
 words-first (x ∷ y ∷ z ∷ gs) h = refl
 
-pub words-next : (gs : List ℕ) (i w : ℕ) → w ≡ packed (drop i gs) → i < length gs → wordsFor (drop i gs) ≡ bitsN 5 w ++ wordsFor (drop (i + 3) gs)
+pub words-next : (gs : List ℕ) (i w : ℕ) → w ≡ packed (drop i gs) → i < length gs → gainsEnc 3 (drop i gs) ≡ bitsN 5 w ++ gainsEnc 3 (drop (i + 3) gs)
 words-next gs i w f h =
-    let e = ap length (drop-cons gs i 0 h) in
+    let e = ap length (from-here gs i 0 h) in
     words-first (drop i gs) (omega arith) ∙ rw (f, drop-drop 3 i gs)
 
-pub words-long : (gs : List ℕ) → length (wordsFor gs) ≡ 5 * ((length gs + 2) / 3)
-unfolding groupWords number
-words-long [] = refl
-words-long (x ∷ []) = length-bitsN 5 (packed (x ∷ []))
-words-long (x ∷ y ∷ []) = length-bitsN 5 (packed (x ∷ y ∷ []))
-words-long (x ∷ y ∷ z ∷ gs) =
-    let e = length-bitsN 5 (packed (x ∷ y ∷ z ∷ gs)) in
-    let f = words-long gs in
-    length-append (bitsN 5 (packed (x ∷ y ∷ z ∷ gs))) (wordsFor gs) ∙ rw (e, f) (next (length gs))
+pub words-end : (gs : List ℕ) (i : ℕ) → length gs ≤ i → gainsEnc 3 (drop i gs) ≡ []
+unfolding gainWords groupWords
+words-end gs i h = ap (gainsEnc 3) (drop-of-length-le gs h)
+
+-- ---- the codes of components
+abbrev pub codesFor : ℕ → ℕ → List Float → List Bool
+codesFor h g v = each-enc (λ (k : ℕ). lenient h g) (replicate (length v) 0) (codesOf h g v)
+
+pub codes-next : (h g : ℕ) (x : List Float) (j : ℕ) → j < length x → codesFor h g (drop j x) ≡ lenient h g .enc (picked h g (getD x j nan) .0) ++ codesFor h g (drop (j + 1) x)
+unfolding each-enc
+codes-next h g x j l = ap (codesFor h g) (from-here x j nan l)
+
+pub codes-end : (h g : ℕ) (x : List Float) (j : ℕ) → length x ≤ j → codesFor h g (drop j x) ≡ []
+unfolding each-enc
+codes-end h g x j l = ap (codesFor h g) (drop-of-length-le x l)
+
+-- ---- the bins
+module _ (mode : ℕ) (gains row : List ℕ) (x : List Float) (start end k : ℕ) where
+  pub bins-next : k < end → binsEnc mode gains row x start end k ≡ binEnc (binAt mode gains row start k) (sixOf x k) ++ binsEnc mode gains row x start end (k + 1)
+  unfolding each-enc
+  bins-next l = rw (over-next (binAt mode gains row start) k end l, over-next (writtenAt mode gains row x start) k end l)
+
+  pub bins-end : end ≤ k → binsEnc mode gains row x start end k ≡ []
+  unfolding each-enc
+  bins-end l = rw (over-end (binAt mode gains row start) k end l)
+
+-- ---- the search's index fits its bits, whatever the vector
+search-most : (f : ℕ → Float) (m n k best : ℕ) (d : Float) → best ≤ m → k + n ≤ m → searchFrom f n k best d ≤ m
+unfolding searchFrom
+search-most f m zero k best d p q = p
+search-most f m (suc n) k best d p q = search-most f m n (suc k) _ _ (go (lt (f k) d)) (omega arith)
   where
-    next : (n : ℕ) → 5 + 5 * ((n + 2) / 3) ≡ 5 * ((suc (suc (suc n)) + 2) / 3)
-    next n = omega arith
+    go : (t : Bool) → cond t k best ≤ m
+    go true = omega arith
+    go false = p
 
-pub words-end : (gs : List ℕ) (i : ℕ) → length gs ≤ i → wordsFor (drop i gs) ≡ []
-unfolding groupWords
-words-end gs i h = ap wordsFor (drop-of-length-le gs h)
-
-pub three-left : (n i : ℕ) → (n - i ≡ 0 → ⊥) → (n - i ≡ 1 → ⊥) → (n - i ≡ 2 → ⊥) → i + 3 ≤ n
-three-left n i a b c = omega arith
-
--- the word at a place, by how many gains are left
-module _ (gs : List ℕ) (i : ℕ) where
-  pub word-none : length gs ≤ i → 0 ≡ packed (drop i gs)
-  word-none h = sym (ap packed (drop-of-length-le gs h))
-
-  module _ (x : ℕ) (ex : x ≡ gainCode (getD gs i 0) 3) where
-    pub word-one : i + 1 ≡ length gs → 9 * x ≡ packed (drop i gs)
-    word-one h = rw (ex, drop-cons gs i 0 (omega arith), drop-of-length-le gs {i = suc i} (omega arith))
-
-    module _ (y : ℕ) (ey : y ≡ gainCode (getD gs (i + 1) 0) 3) where
-      pub word-two : i + 2 ≡ length gs → 9 * x + 3 * y ≡ packed (drop i gs)
-      word-two h =
-          let e : i + 1 ≡ suc i = omega arith in
-          rw (ex, ey, e, drop-cons gs i 0 (omega arith), drop-cons gs (suc i) 0 (omega arith), drop-of-length-le gs {i = suc (suc i)} (omega arith))
-
-      pub word-three : (z : ℕ) → z ≡ gainCode (getD gs (i + 2) 0) 3 → i + 3 ≤ length gs → 9 * x + 3 * y + z ≡ packed (drop i gs)
-      word-three z ez h =
-          let e : i + 1 ≡ suc i = omega arith in
-          let f : i + 2 ≡ suc (suc i) = omega arith in
-          rw (ex, ey, ez, e, f, drop-cons gs i 0 (omega arith), drop-cons gs (suc i) 0 (omega arith), drop-cons gs (suc (suc i)) 0 (omega arith))
+pub search-few : (h : ℕ) (x : List Float) → searchOf h x ≤ 512
+unfolding searchOf nearestIn
+search-few h x =
+    let s = search-most (distanceOf x (book h)) (2 ^ vqBits h) (2 ^ vqBits h) 0 0 (inf false) (omega arith) (omega arith) in
+    let m : 2 ^ vqBits h ≤ 2 ^ 9 = pow-mono (vq-most h) in
+    omega arith

@@ -1,66 +1,70 @@
--- What is written of a plan: its mode, its gains, and for each bin the search's index or the quantiser's codes. Document 01, Writer.
-use Prim.Native.Nat.{ℕ, suc, _+_, _*_}
+-- What is written of a plan: its mode, its gains, and for each bin the search's index or the quantiser's codes.
+-- Document 01, Writer.
+use Prim.Native.Nat.{ℕ, _+_, _*_}
 use mathlib.Core.Bool.{Bool, cond}
-use mathlib.Core.List.{List, [], _∷_, map}
+use mathlib.Core.List.{List, map}
 use lib.Ieee.{Float}
 use lib.Dec.{eqb, leb}
-use lib.ListN.{length, take, drop}
+use lib.ListN.{length}
+use Rattle.answers.specs.Causes as cause
 use Rattle.bits.specs.Bits.{posOf, bytesWith}
-use Rattle.bits.specs.declared.BitWrite.{BitWrite}
-use Rattle.bits.specs.declared.BitWrite.the-variants.{Done}
+use Rattle.bits.specs.declared.BitPos.{BitPos}
 use Rattle.levels.specs.declared.Code.{Code}
-use Rattle.field.specs.Field.{Bin, none, book, scalar, Item, nothing, index, codes, partOf, binsOf, Channel, field}
+use Rattle.channel.specs.Bins.{over}
+use Rattle.channel.specs.Row.{sixOf}
+use Rattle.channel.specs.Field.{Bin, none, book, scalar, Item, nothing, index, codes, binAt, Channel, field}
 use Rattle.books.specs.Books.{searchOf}
 use Rattle.quantiser.specs.Quantise.{picked}
 use Rattle.planner.specs.declared.Plan.{Plan}
-use Rattle.planner.specs.Planning.{causeOf, totalOf}
+use Rattle.planner.specs.Planning.{causeOf, totalOf, gainsOf}
 use Rattle.planner.specs.Fit.{planFits}
-
--- the six components of the bin k
-abbrev pub sixOf : List Float → ℕ → List Float
-sixOf x k = take 6 (drop (6 * k) x)
+use Rattle.writer.specs.declared.ChannelWrite.{ChannelWrite}
+use Rattle.writer.specs.declared.ChannelWrite.the-variants.{Done}
 
 -- the quantiser's codes for components
 abbrev pub codesOf : ℕ → ℕ → List Float → List Code
 codesOf h g v = map (λ x. picked h g x .0) v
 
--- what is written for a bin with the vector v
+-- what is written for a bin with the vector v, and for the bin k of a row
 abbrev pub itemOf : Bin → List Float → Item
 itemOf none v = nothing
 itemOf (book h) v = index (searchOf h v)
 itemOf (scalar h g) v = codes (codesOf h g v)
 
--- for bins, the first of which is the bin k
-unfoldable pub itemsFrom : List Bin → List Float → ℕ → List Item
-itemsFrom [] x k = []
-itemsFrom (b ∷ bs) x k = itemOf b (sixOf x k) ∷ itemsFrom bs x (suc k)
+abbrev pub writtenAt : ℕ → List ℕ → List ℕ → List Float → ℕ → ℕ → Item
+writtenAt mode gains row x start k = itemOf (binAt mode gains row start k) (sixOf x k)
 
 -- the channel of a mode and gains
-abbrev pub channelOf : List ℕ → List Float → ℕ → ℕ → ℕ → List ℕ → Channel
-channelOf row x start end mode gains = (mode, (gains, itemsFrom (binsOf mode (partOf row start end) gains) x start))
+abbrev pub writtenOf : ℕ → List ℕ → List ℕ → List Float → ℕ → ℕ → Channel
+writtenOf mode gains row x start end = record { mode = mode; gains = gains; items = over (writtenAt mode gains row x start) start end }
 
 -- ---- write_aht_channel
--- the gains of a plan; its other places are not looked at
-abbrev pub gainsOf : Plan → List ℕ
-gainsOf p = take (p .count) (p .gains)
-
 -- the field of a plan
 abbrev pub fieldOf : Plan → List ℕ → ℕ → ℕ → List Float → List Bool
-fieldOf p row start end x = field (partOf row start end) .enc (channelOf row x start end (p .mode) (gainsOf p))
+fieldOf p row start end x = field row start end .enc (writtenOf (p .mode) (gainsOf p) row x start end)
 
 -- causes 1 to 7 for the position at of n bits: the lowest that holds, 0 where none does
 unfoldable pub writeCause : Plan → List ℕ → ℕ → ℕ → List Float → ℕ → ℕ → ℕ
 writeCause p row start end x n at =
     cond (eqb (causeOf row start end x) 0)
-    (cond (planFits p row start end x) (cond (leb (at + totalOf p) n) 0 7) 6)
+    (cond (planFits p row start end x) (cond (leb (at + totalOf p) n) cause.none cause.outputFull) cause.planMisfit)
     (causeOf row start end x)
 
 -- the answer: the position behind the field, or the refusal
-unfoldable pub channelWrite : Plan → List ℕ → ℕ → ℕ → List Float → List ℕ → ℕ → BitWrite
+unfoldable pub channelWrite : Plan → List ℕ → ℕ → ℕ → List Float → List ℕ → ℕ → ChannelWrite
 channelWrite p row start end x out at =
     cond (eqb (writeCause p row start end x (8 * length out) at) 0)
     (Done (posOf (at + totalOf p)))
-    (BitWrite.Refused (writeCause p row start end x (8 * length out) at))
+    (ChannelWrite.Refused (writeCause p row start end x (8 * length out) at))
+
+-- its number, and the position; p is what stood there before where it refuses
+abbrev pub writeNumber : ChannelWrite → ℕ
+writeNumber (ChannelWrite.Done q) = 0
+writeNumber (ChannelWrite.Refused n) = n
+
+abbrev pub writePlace : BitPos → ChannelWrite → BitPos
+writePlace p (ChannelWrite.Done q) = q
+writePlace p (ChannelWrite.Refused n) = p
 
 -- the output afterwards: with the field from the position on, or as it was
 unfoldable pub channelWritten : Plan → List ℕ → ℕ → ℕ → List Float → List ℕ → ℕ → List ℕ

@@ -1,7 +1,7 @@
 -- `bitreader::read_first` meets its contract. Assumes nothing.
--- A walk of its MIR, by hand: a struct is made in a local, and passed to `read_u32`, of which the proof knows its contract alone.
--- A `&[u8]` is Copy: what it owns is had twice, once for the exit and once inside the struct. MIR erases the lifetime in a local's type,
--- and what the struct owns does not say its name.
+-- A walk of its MIR, by hand: a struct is made in a local, and passed to `read_u32`, of which the proof knows its
+-- contract alone. A `&[u8]` is Copy: what it owns is had twice, once for the exit and once inside the struct. MIR
+-- erases the lifetime in a local's type, and what the struct owns does not say its name.
 use mathlib.Core.Path.{_≡_, refl}
 use Prim.Native.Nat.{ℕ, _<_, _^_}
 use mathlib.Core.List.{List, [], _∷_}

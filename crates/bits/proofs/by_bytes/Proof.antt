@@ -11,11 +11,6 @@ use native.Mathlib.Omega.{arith}
 use borrow.Author.Needs.{needs}
 use Rattle.bits.proofs.by_bytes.Statement.{statement}
 use Rattle.bits.proofs.by_bytes.Tie as tie
-use Rattle.bits.proofs.by_bytes.Reads as reads
-use Rattle.bits.proofs.by_bytes.Lts as lts
-use Rattle.bits.proofs.pow2.Reads as pow2-reads
-use Rattle.bits.proofs.step.Reads as step-reads
-use Rattle.bits.proofs.wide.Reads as wide-reads
 
 abbrev Inv-loop : tie.InvT-loop
 Inv-loop src q r n v₀ i₀ b₀ p₀ v i b p = (i ≤ n) × (8 * q + r + i ≡ 8 * b + p) × (p < 8) × (v ≡ numberOf (take i (drop (8 * q + r) (bitsOf src))))
@@ -26,27 +21,6 @@ abbrev μ-loop : tie.MeasureT-loop
 loop-holds : tie.Need-loop-holds Inv-loop μ-loop
 unfolding numberOf
 loop-holds c = search needs
-
-sub-step : tie.Need-sub-step Inv-loop μ-loop
-sub-step c = search needs
-
-step-requires : tie.Need-step-requires Inv-loop μ-loop
-step-requires c κs = search needs
-
-shared-slice-read-wide : tie.Need-shared-slice-read-wide Inv-loop μ-loop
-shared-slice-read-wide c = search needs
-
-wide-requires : tie.Need-wide-requires Inv-loop μ-loop
-wide-requires c κs = search needs
-
-sub-k : tie.Need-sub-k Inv-loop μ-loop
-sub-k c = search needs
-
-sub-k-2 : tie.Need-sub-k-2 Inv-loop μ-loop
-sub-k-2 c = search needs
-
-pow2-requires : tie.Need-pow2-requires Inv-loop μ-loop
-pow2-requires c κs = search needs
 
 -- a turn's number, at the place where it is known
 next : (c : tie.After-pow22 Inv-loop μ-loop) →
@@ -68,12 +42,6 @@ mul-v c =
     let m : l .loop .i + c .before .before .before .step .result ≤ 32 = omega arith in
     record { fits = rw (c .pow2 .ensures) (lt-of-lt-of-le (shl-lt (l .loop .i) (c .before .before .before .step .result) h) (pow-mono m)) }
 
-shr-v : tie.Need-shr-v Inv-loop μ-loop
-shr-v c = search needs
-
-pow2-requires-2 : tie.Need-pow2-requires-2 Inv-loop μ-loop
-pow2-requires-2 c κs = search needs
-
 rem-v : tie.Need-rem-v Inv-loop μ-loop
 rem-v c = rw (c .pow22 .ensures) (pow-pos (c .before .before .before .before .step .result))
 
@@ -81,24 +49,6 @@ add-v : tie.Need-add-v Inv-loop μ-loop
 add-v c =
     let m : c .before .before .before .before .before .before .loop .i + c .before .before .before .before .step .result ≤ 32 = omega arith in
     record { fits = rw (next c) (lt-of-lt-of-le (number-take-lt _ _) (pow-mono m)) }
-
-add-i : tie.Need-add-i Inv-loop μ-loop
-add-i c = search needs
-
-add-b : tie.Need-add-b Inv-loop μ-loop
-add-b c = search needs
-
-cast-b : tie.Need-cast-b Inv-loop μ-loop
-cast-b c = search needs
-
-add-b-2 : tie.Need-add-b-2 Inv-loop μ-loop
-add-b-2 c = search needs
-
-add-p : tie.Need-add-p Inv-loop μ-loop
-add-p c = search needs
-
-loop-less : tie.Need-loop-less Inv-loop μ-loop
-loop-less c = search needs
 
 loop-again : tie.Need-loop-again Inv-loop μ-loop
 loop-again c = (omega arith, omega arith, omega arith, next c)
@@ -111,27 +61,7 @@ returns c =
 pub by-bytes-spec : {M : Type 1} → statement M
 by-bytes-spec =
     tie.close
-    (tie.spec
-    Inv-loop
-    μ-loop
-    loop-holds
-    sub-step
-    step-requires
-    shared-slice-read-wide
-    wide-requires
-    sub-k
-    sub-k-2
-    pow2-requires
-    mul-v
-    shr-v
-    pow2-requires-2
-    rem-v
-    add-v
-    add-i
-    add-b
-    cast-b
-    add-b-2
-    add-p
-    loop-less
-    loop-again
-    returns)
+    (tie.spec Inv-loop μ-loop loop-holds (λ c. search needs) (λ c κs. search needs) (λ c. search needs)
+    (λ c κs. search needs) (λ c. search needs) (λ c. search needs) (λ c κs. search needs) mul-v (λ c. search needs)
+    (λ c κs. search needs) rem-v add-v (λ c. search needs) (λ c. search needs) (λ c. search needs) (λ c. search needs)
+    (λ c. search needs) (λ c. search needs) loop-again returns)

@@ -1,8 +1,7 @@
 -- `books::exact_entry` meets its contract. Assumes nothing.
-use Prim.Native.Nat.{_*_}
 use mathlib.Core.Path.{_≡_, refl, _∙_}
 use native.Mathlib.Omega.{arith}
-use lib.IntN.{ℤ, pos, natAbs, _*ℤ_}
+use lib.IntN.{pos, _*ℤ_}
 use mir.Syntax.{w16, w32}
 use mir.Val.{toZ, ofZ}
 use mir.ValLaws.{toZ-ofZ}
@@ -13,17 +12,14 @@ use Rattle.books.proofs.exact_entry.Tie as tie
 e-is : (c : tie.Start) → toZ w32 (ofZ w32 (toZ w16 (ofZ w16 (c .args .e)))) ≡ c .args .e
 e-is c = widened (c .args .e) (c .fits .e .sfits) refl
 
-cast-result : tie.Need-cast-result
-cast-result c = widened-fits (c .args .e) (c .fits .e .sfits)
-
 mul-result : tie.Need-mul-result
 mul-result c =
     let e = c .args .e in
     let f = c .fits .e .sfits in
     rw (e-is c) (record { sfits = omega (arith, mag-abs (e *ℤ pos 32768), abs-mul e (pos 32768), abs-mag e, f) })
 
-returns : tie.Need-returns
-returns c = toZ-ofZ w32 _ (mul-result c) ∙ rw (e-is c)
-
 pub exact-entry-spec : {M : Type 1} → statement M
-exact-entry-spec = tie.close (tie.spec cast-result mul-result returns)
+exact-entry-spec =
+    tie.close
+    (tie.spec (λ c. widened-fits (c .args .e) (c .fits .e .sfits)) mul-result
+    (λ c. toZ-ofZ w32 _ (mul-result c) ∙ rw (e-is c)))

@@ -14,8 +14,8 @@ use Rattle.bits.specs.Bits.{splice}
 use Rattle.bits.proofs.Laws.{splice-none}
 use Rattle.levels.specs.Value.{q15}
 use Rattle.levels.proofs.Signed.{back}
-use Rattle.books.specs.Books.{exactEntry}
-use Rattle.books.proofs.Vectors.{six-is, exacts-are, put-next}
+use Rattle.books.specs.Books.{sixAt, exactEntry, exactsAt}
+use Rattle.books.proofs.Vectors.{six-is, put-next}
 use Rattle.books.proofs.put_six.Statement.{statement}
 use Rattle.books.proofs.put_six.Tie as tie
 
@@ -29,45 +29,6 @@ loop-holds : tie.Need-loop-holds Inv-loop μ-loop
 loop-holds c =
     let a = c .before .args in
     (omega arith, refl, refl, sym (splice-none (now (a .values)) (a .at)), sym (splice-none (now (a .exact)) (a .at)))
-
-add-e : tie.Need-add-e Inv-loop μ-loop
-add-e c = search needs
-
-mul-e : tie.Need-mul-e Inv-loop μ-loop
-mul-e c = search needs
-
-shared-slice-copy-out-e : tie.Need-shared-slice-copy-out-e Inv-loop μ-loop
-shared-slice-copy-out-e c = search needs
-
-q15-requires : tie.Need-q15-requires Inv-loop μ-loop
-q15-requires c κs = search needs
-
-add-values : tie.Need-add-values Inv-loop μ-loop
-add-values c = search needs
-
-mul-values : tie.Need-mul-values Inv-loop μ-loop
-mul-values c = search needs
-
-slice-write-values : tie.Need-slice-write-values Inv-loop μ-loop
-slice-write-values c = search needs
-
-exact-entry-requires : tie.Need-exact-entry-requires Inv-loop μ-loop
-exact-entry-requires c κs = search needs
-
-add-t9 : tie.Need-add-t9 Inv-loop μ-loop
-add-t9 c = search needs
-
-mul-t10 : tie.Need-mul-t10 Inv-loop μ-loop
-mul-t10 c = search needs
-
-slice-set-from-exact : tie.Need-slice-set-from-exact Inv-loop μ-loop
-slice-set-from-exact c = search needs
-
-add-j : tie.Need-add-j Inv-loop μ-loop
-add-j c = search needs
-
-loop-less : tie.Need-loop-less Inv-loop μ-loop
-loop-less c = search needs
 
 loop-again : tie.Need-loop-again Inv-loop μ-loop
 loop-again c =
@@ -88,41 +49,19 @@ loop-again c =
       rw x (put-next b (a .a) (h .0 .0) exactEntry (now (a .exact)) (l .exact) (a .at) (l .j) g (omega arith) (h .1 .1) refl (l .inv .4)),
     )
 
-same-length : tie.Need-same-length Inv-loop μ-loop
-same-length c = search needs
-
-same-length-2 : tie.Need-same-length-2 Inv-loop μ-loop
-same-length-2 c = search needs
-
 returns : tie.Need-returns Inv-loop μ-loop
+unfolding sixAt exactsAt
 returns c =
     let l = c .before .loop in
     let a = c .before .before .before .args in
     let h = c .before .before .before .pre in
     let six : l .j ≡ 6 = omega arith in
-    (l .inv .3 ∙ rw (six, six-is (now (a .book)) (a .a) (h .0 .0)), l .inv .4 ∙ rw (six, exacts-are (now (a .book)) (a .a) (h .0 .0)))
+    (l .inv .3 ∙ rw (six, six-is (now (a .book)) (a .a) (h .0 .0) q15), l .inv .4 ∙ rw (six, six-is (now (a .book)) (a .a) (h .0 .0) exactEntry))
 
 pub put-six-spec : {M : Type 1} → statement M
 put-six-spec =
     tie.close
-    (tie.spec
-    Inv-loop
-    μ-loop
-    loop-holds
-    add-e
-    mul-e
-    shared-slice-copy-out-e
-    q15-requires
-    add-values
-    mul-values
-    slice-write-values
-    exact-entry-requires
-    add-t9
-    mul-t10
-    slice-set-from-exact
-    add-j
-    loop-less
-    loop-again
-    same-length
-    same-length-2
-    returns)
+    (tie.spec Inv-loop μ-loop loop-holds (λ c. search needs) (λ c. search needs) (λ c. search needs)
+    (λ c κs. search needs) (λ c. search needs) (λ c. search needs) (λ c. search needs) (λ c κs. search needs)
+    (λ c. search needs) (λ c. search needs) (λ c. search needs) (λ c. search needs) (λ c. search needs) loop-again
+    (λ c. search needs) (λ c. search needs) returns)

@@ -11,15 +11,6 @@ there c =
     let p = c .pre in
     stands (now (c .args .books)) (c .args .hebap) (c .args .index) (p .0 .0) (p .0 .1) (p .0 .2) (p .1 .0)
 
-place-requires : tie.Need-place-requires
-place-requires c κs = search needs
-
-mul-put-six : tie.Need-mul-put-six
-mul-put-six c = let s = there (c .before .before) .inside in omega arith
-
-add-put-six : tie.Need-add-put-six
-add-put-six c = let s = there (c .before .before) .inside in let p = c .place .ensures in omega arith
-
 put-six-requires : tie.Need-put-six-requires
 put-six-requires c κs =
     let r = c .before .before in
@@ -29,12 +20,6 @@ put-six-requires c κs =
     let w = s .whole in
     let p = r .place .ensures in
     ((omega arith, omega arith), b .pre .1 .1)
-
-same-length : tie.Need-same-length
-same-length c = search needs
-
-same-length-2 : tie.Need-same-length-2
-same-length-2 c = search needs
 
 returns : tie.Need-returns
 returns c =
@@ -47,11 +32,6 @@ returns c =
 pub put-vector-spec : {M : Type 1} → statement M
 put-vector-spec =
     tie.close
-    (tie.spec
-    place-requires
-    mul-put-six
-    add-put-six
-    put-six-requires
-    same-length
-    same-length-2
-    returns)
+    (tie.spec (λ c κs. search needs) (λ c. let s = there (c .before .before) .inside in omega arith)
+    (λ c. let s = there (c .before .before) .inside in let p = c .place .ensures in omega arith) put-six-requires
+    (λ c. search needs) (λ c. search needs) returns)

@@ -1,14 +1,11 @@
 -- `books::vq_search` meets its contract. Assumes nothing.
 use mathlib.Core.Path.{sym, ap, _∙_}
-use Rattle.books.specs.declared.SearchResult.the-variants.{Index}
+use Rattle.answers.specs.declared.SizeResult.the-variants.{Value}
 use Rattle.books.specs.Books.{vqSearch}
 use Rattle.books.proofs.Laws.{HasBook, no-book, has-book}
 use borrow.Author.Needs.{needs}
 use Rattle.books.proofs.vq_search.Statement.{statement}
 use Rattle.books.proofs.vq_search.Tie as tie
-
-vectors-in-requires : tie.Need-vectors-in-requires
-vectors-in-requires c κs = search needs
 
 -- the book is there
 there : (c : tie.Else1) → let r = c .before in HasBook (r .before .args .hebap) (r .vectors-in .result)
@@ -18,30 +15,19 @@ returns : tie.Need-returns
 unfolding vqSearch
 returns c = let r = c .before in rw (no-book (r .before .args .hebap) (r .vectors-in .result) (r .vectors-in .ensures) (c .if1 .taken))
 
-any-too-large-requires : tie.Need-any-too-large-requires
-any-too-large-requires c κs = search needs
-
 returns-2 : tie.Need-returns-2
 unfolding vqSearch
 returns-2 c = let k = there (c .before .before .before) in rw (k .it-has, sym (c .before .any-too-large .ensures) ∙ c .if2 .taken)
-
-search-requires : tie.Need-search-requires
-search-requires c κs = let k = there (c .before .before .before .before) in search needs
 
 returns-3 : tie.Need-returns-3
 unfolding vqSearch
 returns-3 c =
     let t = c .before .before .before in
     let k = there (t .before .before) in
-    rw (k .it-has, sym (t .any-too-large .ensures) ∙ c .before .before .if2 .left) (ap Index (c .search .ensures))
+    rw (k .it-has, sym (t .any-too-large .ensures) ∙ c .before .before .if2 .left) (ap Value (c .search .ensures))
 
 pub vq-search-spec : {M : Type 1} → statement M
 vq-search-spec =
     tie.close
-    (tie.spec
-    vectors-in-requires
-    returns
-    any-too-large-requires
-    returns-2
-    search-requires
-    returns-3)
+    (tie.spec (λ c κs. search needs) returns (λ c κs. search needs) returns-2
+    (λ c κs. let k = there (c .before .before .before .before) in search needs) returns-3)

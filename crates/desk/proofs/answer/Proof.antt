@@ -6,21 +6,10 @@ use borrow.Author.Needs.{needs}
 use Rattle.desk.proofs.answer.Statement.{statement}
 use Rattle.desk.proofs.answer.Tie as tie
 
-least-requires : tie.Need-least-requires
-least-requires c κs = search needs
-
 slice-aggregate-desk : tie.Need-slice-aggregate-desk
 slice-aggregate-desk c = sym (length-take-le (c .before .least .result) (c .before .before .before .args .input .now) (let e = c .before .least .ensures in omega arith))
 
-desk-requires : tie.Need-desk-requires
-desk-requires c κs = search needs
-
-print-requires : tie.Need-print-requires
-print-requires c κs = search needs
-
-returns : tie.Need-returns
-returns c = search needs
-
 pub answer-spec : {M : Type 1} → statement M
 answer-spec =
-    tie.close (tie.spec least-requires slice-aggregate-desk desk-requires print-requires returns)
+    tie.close (tie.spec (λ c κs. search needs) slice-aggregate-desk (λ c κs. search needs) (λ c κs. search needs)
+    (λ c. search needs))

@@ -11,15 +11,6 @@ use Rattle.desktext.proofs.Answers.{plan-refused, few-gains, few-bits, 
 use Rattle.desktext.proofs.print_channel.Statement.{statement}
 use Rattle.desktext.proofs.print_channel.Tie as tie
 
-plan-aht-channel-requires : tie.Need-plan-aht-channel-requires
-plan-aht-channel-requires c κs = search needs
-
-print-refused-requires : tie.Need-print-refused-requires
-print-refused-requires c κs = search needs
-
-same-length : tie.Need-same-length
-same-length c = search needs
-
 returns : tie.Need-returns
 returns c =
     let w = c .before .before in
@@ -29,27 +20,6 @@ returns c =
     let e = plan-refused (now (a .row)) (a .start) (a .end) (now (a .x)) (g .plan-aht-channel .result) (g .plan-aht-channel .ensures) (i .if1 .taken) in
     let u = w .print-refused .ensures in
     (u .0 ∙ ap length e, u .1 ∙ ap (splice (now (a .out)) 0) e)
-
-write-aht-channel-requires : tie.Need-write-aht-channel-requires
-write-aht-channel-requires c κs = search needs
-
-enum-known-w : tie.Need-enum-known-w
-enum-known-w c = search needs
-
-print-refused-requires-2 : tie.Need-print-refused-requires-2
-print-refused-requires-2 c κs = search needs
-
-enum-told : tie.Need-enum-told
-enum-told c = search needs
-
-cast-n : tie.Need-cast-n
-cast-n c = search needs
-
-add-n : tie.Need-add-n
-add-n c = search needs
-
-add-n-2 : tie.Need-add-n-2
-add-n-2 c = search needs
 
 slice-reshare-prefix-print-plan : tie.Need-slice-reshare-prefix-print-plan
 slice-reshare-prefix-print-plan c =
@@ -75,12 +45,6 @@ print-plan-requires c κs =
     let l = slice-aggregate-print-plan c in
     (few-gains (now (a .row)) (a .start) (a .end) (now (a .x)) r (g .plan-aht-channel .ensures) (i .if1 .left), omega arith, le-trans (le-of-eq (sym l)) (omega arith), s .pre .0)
 
-same-length-2 : tie.Need-same-length-2
-same-length-2 c = search needs
-
-same-length-3 : tie.Need-same-length-3
-same-length-3 c = search needs
-
 returns-2 : tie.Need-returns-2
 returns-2 c =
     let k = c .before .before .before .before in
@@ -91,12 +55,6 @@ returns-2 c =
     let a = s .args in
     absurd (never-refused (now (a .row)) (a .start) (a .end) (now (a .x)) (g .plan-aht-channel .result) (g .plan-aht-channel .ensures) (i .if1 .left) (now (a .field)) (s .pre .1)
     (w .write-aht-channel .result) _ (w .write-aht-channel .ensures .0) (k .before .w .given .1))
-
-same-length-4 : tie.Need-same-length-4
-same-length-4 c = search needs
-
-same-length-5 : tie.Need-same-length-5
-same-length-5 c = search needs
 
 returns-3 : tie.Need-returns-3
 returns-3 c =
@@ -114,25 +72,8 @@ returns-3 c =
 
 pub print-channel-spec : {M : Type 1} → statement M
 print-channel-spec =
-    tie.close
-    (tie.spec
-    plan-aht-channel-requires
-    print-refused-requires
-    same-length
-    returns
-    write-aht-channel-requires
-    enum-known-w
-    print-refused-requires-2
-    enum-told
-    cast-n
-    add-n
-    add-n-2
-    slice-reshare-prefix-print-plan
-    slice-aggregate-print-plan
-    print-plan-requires
-    same-length-2
-    same-length-3
-    returns-2
-    same-length-4
-    same-length-5
+    tie.close (tie.spec (λ c κs. search needs) (λ c κs. search needs) (λ c. search needs) returns
+    (λ c κs. search needs) (λ c. search needs) (λ c κs. search needs) (λ c. search needs) (λ c. search needs)
+    (λ c. search needs) (λ c. search needs) slice-reshare-prefix-print-plan slice-aggregate-print-plan
+    print-plan-requires (λ c. search needs) (λ c. search needs) returns-2 (λ c. search needs) (λ c. search needs)
     returns-3)

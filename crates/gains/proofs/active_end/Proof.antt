@@ -1,20 +1,15 @@
 -- `gains::active_end` meets its contract. Assumes nothing.
-use native.Mathlib.Omega.{arith}
-use borrow.Author.Tests.{ne-eqb, le-ltb}
-use Rattle.gains.specs.Gains.{endbap}
+use mathlib.Core.Path.{_∙_}
+use borrow.Author.Needs.{needs}
+use borrow.Author.Tests.{ne-eqb}
 use Rattle.gains.proofs.active_end.Statement.{statement}
 use Rattle.gains.proofs.active_end.Tie as tie
 
 returns : tie.Need-returns
-returns c = simp (c .match .keys1)
+returns c = simp (c .if1 .taken)
 
 returns-2 : tie.Need-returns-2
-unfolding endbap
-returns-2 c = simp (c .match .keys2)
-
-returns-3 : tie.Need-returns-3
-unfolding endbap
-returns-3 c = let r = c .match .rest in simp (ne-eqb _ _ (r .0 .1), le-ltb (c .before .args .gaqmod) 2 (omega (arith, r .0 .1, r .1)))
+returns-2 c = c .end-of .ensures ∙ simp (ne-eqb _ _ (c .before .if1 .left))
 
 pub active-end-spec : {M : Type 1} → statement M
-active-end-spec = tie.close (tie.spec returns returns-2 returns-3)
+active-end-spec = tie.close (tie.spec (λ c κs. search needs) returns returns-2)

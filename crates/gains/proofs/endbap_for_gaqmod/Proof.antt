@@ -9,12 +9,9 @@ returns : tie.Need-returns
 unfolding endbapForGaqmod
 returns c = simp (lt-leb _ _ (c .if1 .taken))
 
-end-of-requires : tie.Need-end-of-requires
-end-of-requires c κs = search needs
-
 returns-2 : tie.Need-returns-2
 unfolding endbapForGaqmod
 returns-2 c = simp (le-leb _ _ (c .before .if1 .left), c .end-of .ensures)
 
 pub endbap-for-gaqmod-spec : {M : Type 1} → statement M
-endbap-for-gaqmod-spec = tie.close (tie.spec returns end-of-requires returns-2)
+endbap-for-gaqmod-spec = tie.close (tie.spec returns (λ c κs. search needs) returns-2)

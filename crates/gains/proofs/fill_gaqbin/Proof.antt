@@ -26,29 +26,8 @@ returns : tie.Need-returns Inv-loop μ-loop
 unfolding fillGaqbin gaqbinAfter
 returns c = (simp (lt-leb _ _ (c .if1 .taken)), simp (lt-leb _ _ (c .if1 .taken)))
 
-least-requires : tie.Need-least-requires Inv-loop μ-loop
-least-requires c κs = search needs
-
 loop-holds : tie.Need-loop-holds Inv-loop μ-loop
 loop-holds c = let a = c .before .before .before .args in (omega arith, refl, marked-start (a .gaqmod) (now (a .hebap)) (now (a .gaqbin)))
-
-shared-slice-read-mark : tie.Need-shared-slice-read-mark Inv-loop μ-loop
-shared-slice-read-mark c = search needs
-
-mark-requires : tie.Need-mark-requires Inv-loop μ-loop
-mark-requires c κs = search needs
-
-slice-set-from-m : tie.Need-slice-set-from-m Inv-loop μ-loop
-slice-set-from-m c = search needs
-
-add-active : tie.Need-add-active Inv-loop μ-loop
-add-active c = search needs
-
-add-i : tie.Need-add-i Inv-loop μ-loop
-add-i c = search needs
-
-loop-less : tie.Need-loop-less Inv-loop μ-loop
-loop-less c = search needs
 
 loop-again : tie.Need-loop-again Inv-loop μ-loop
 loop-again c =
@@ -61,9 +40,6 @@ loop-again c =
     let next = marked-next (a .gaqmod) (now (a .hebap)) (now (a .gaqbin)) (l .loop .gaqbin) (l .loop .i) (l .loop .active) (l .loop .inv .2) m (omega arith) (omega arith) e (c .if2 .active) in
     (omega arith, simp length-set g, ⊎-elim (λ w. next .0 (w .1) (ap (toZ w8) (w .0 .taken))) (λ w. next .1 (w .1) (λ q. w .0 .left (ap (ofZ w8) (sym z ∙ q)))) (c .if2 .came))
 
-same-length : tie.Need-same-length Inv-loop μ-loop
-same-length c = search needs
-
 returns-2 : tie.Need-returns-2 Inv-loop μ-loop
 returns-2 c =
     let l = c .before in
@@ -73,18 +49,6 @@ returns-2 c =
 pub fill-gaqbin-spec : {M : Type 1} → statement M
 fill-gaqbin-spec =
     tie.close
-    (tie.spec
-    Inv-loop
-    μ-loop
-    returns
-    least-requires
-    loop-holds
-    shared-slice-read-mark
-    mark-requires
-    slice-set-from-m
-    add-active
-    add-i
-    loop-less
-    loop-again
-    same-length
+    (tie.spec Inv-loop μ-loop returns (λ c κs. search needs) loop-holds (λ c. search needs) (λ c κs. search needs)
+    (λ c. search needs) (λ c. search needs) (λ c. search needs) (λ c. search needs) loop-again (λ c. search needs)
     returns-2)

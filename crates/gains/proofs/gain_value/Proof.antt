@@ -1,4 +1,5 @@
--- `gains::gain_value` meets its contract: at each `return` the tests that led there say which case of the definition holds. Assumes nothing.
+-- `gains::gain_value` meets its contract: at each `return` the tests that led there say which case of the definition
+-- holds. Assumes nothing.
 use borrow.Author.Tests.{eq-eqb, ne-eqb}
 use Rattle.gains.specs.Gains.{gainValue}
 use Rattle.gains.proofs.gain_value.Statement.{statement}

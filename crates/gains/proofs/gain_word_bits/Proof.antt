@@ -6,12 +6,6 @@ use Rattle.gains.specs.Gains.{wordBits, sections, gainWordBits}
 use Rattle.gains.proofs.gain_word_bits.Statement.{statement}
 use Rattle.gains.proofs.gain_word_bits.Tie as tie
 
-add-result : tie.Need-add-result
-add-result c = search needs
-
-mul-result : tie.Need-mul-result
-mul-result c = search needs
-
 returns : tie.Need-returns
 unfolding gainWordBits wordBits sections
 returns c = simp (c .match .keys1)
@@ -25,4 +19,4 @@ unfolding gainWordBits wordBits sections
 returns-3 c = simp (ne-eqb _ _ (c .match .rest .0 .1), ne-eqb _ _ (c .match .rest .1), one-mul)
 
 pub gain-word-bits-spec : {M : Type 1} → statement M
-gain-word-bits-spec = tie.close (tie.spec add-result mul-result returns returns-2 returns-3)
+gain-word-bits-spec = tie.close (tie.spec (λ c. search needs) (λ c. search needs) returns returns-2 returns-3)

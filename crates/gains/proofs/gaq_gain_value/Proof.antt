@@ -9,12 +9,9 @@ returns : tie.Need-returns
 unfolding gaqGainValue
 returns c = simp (lt-leb _ _ (c .if1 .taken))
 
-gain-value-requires : tie.Need-gain-value-requires
-gain-value-requires c κs = search needs
-
 returns-2 : tie.Need-returns-2
 unfolding gaqGainValue
 returns-2 c = simp (le-leb _ _ (c .before .if1 .left), c .gain-value .ensures)
 
 pub gaq-gain-value-spec : {M : Type 1} → statement M
-gaq-gain-value-spec = tie.close (tie.spec returns gain-value-requires returns-2)
+gaq-gain-value-spec = tie.close (tie.spec returns (λ c κs. search needs) returns-2)

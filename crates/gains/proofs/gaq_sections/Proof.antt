@@ -5,12 +5,9 @@ use borrow.Author.Needs.{needs}
 use borrow.Author.Tests.{le-leb, lt-leb, ne-eqb}
 use native.Mathlib.Omega.{arith}
 use Rattle.gains.specs.Gains.{gaqSections, sections}
-use Rattle.gains.specs.declared.CountResult.the-variants.{Count}
+use Rattle.answers.specs.declared.SizeResult.the-variants.{Value}
 use Rattle.gains.proofs.gaq_sections.Statement.{statement}
 use Rattle.gains.proofs.gaq_sections.Tie as tie
-
-add-t8 : tie.Need-add-t8
-add-t8 c = search needs
 
 returns : tie.Need-returns
 unfolding gaqSections sections
@@ -18,11 +15,11 @@ returns c = simp (c .match .keys1)
 
 returns-2 : tie.Need-returns-2
 unfolding gaqSections sections
-returns-2 c = simp (c .before .match .keys2) (ap Count (omega arith))
+returns-2 c = simp (c .before .match .keys2) (ap Value (omega arith))
 
 returns-3 : tie.Need-returns-3
 unfolding gaqSections sections
-returns-3 c = simp (c .before .match .keys2) (ap Count (omega arith))
+returns-3 c = simp (c .before .match .keys2) (ap Value (omega arith))
 
 returns-4 : tie.Need-returns-4
 unfolding gaqSections sections
@@ -36,4 +33,4 @@ returns-5 c =
     simp (lt-leb m 3 (omega arith))
 
 pub gaq-sections-spec : {M : Type 1} → statement M
-gaq-sections-spec = tie.close (tie.spec add-t8 returns returns-2 returns-3 returns-4 returns-5)
+gaq-sections-spec = tie.close (tie.spec (λ c. search needs) returns returns-2 returns-3 returns-4 returns-5)

@@ -8,11 +8,8 @@ use Rattle.gains.proofs.is_active.Tie as tie
 returns : tie.Need-returns
 returns c = let a = c .before .args in active-low (a .gaqmod) (a .hebap) (omega arith)
 
-active-end-requires : tie.Need-active-end-requires
-active-end-requires c κs = search needs
-
 returns-2 : tie.Need-returns-2
 returns-2 c = let a = c .before .before .args in rw (c .active-end .ensures) (active-by-end (a .gaqmod) (a .hebap) (omega arith))
 
 pub is-active-spec : {M : Type 1} → statement M
-is-active-spec = tie.close (tie.spec returns active-end-requires returns-2)
+is-active-spec = tie.close (tie.spec returns (λ c κs. search needs) returns-2)

@@ -7,9 +7,6 @@ use Rattle.gains.specs.Gains.{endbap, gaqbinOf}
 use Rattle.gains.proofs.mark.Statement.{statement}
 use Rattle.gains.proofs.mark.Tie as tie
 
-end-of-requires : tie.Need-end-of-requires
-end-of-requires c κs = search needs
-
 returns : tie.Need-returns
 unfolding gaqbinOf
 returns c =
@@ -32,4 +29,4 @@ returns-3 c =
     simp (lt-leb _ _ h, le-ltb _ _ (c .if2 .left))
 
 pub mark-spec : {M : Type 1} → statement M
-mark-spec = tie.close (tie.spec end-of-requires returns returns-2 returns-3)
+mark-spec = tie.close (tie.spec (λ c κs. search needs) returns returns-2 returns-3)

@@ -8,15 +8,6 @@ use Rattle.gains.proofs.Laws.{placed-one, placed-full}
 use Rattle.gains.proofs.put_code.Statement.{statement}
 use Rattle.gains.proofs.put_code.Tie as tie
 
-slice-write-out : tie.Need-slice-write-out
-slice-write-out c = search needs
-
-add-result : tie.Need-add-result
-add-result c = search needs
-
-same-length : tie.Need-same-length
-same-length c = search needs
-
 returns : tie.Need-returns
 returns c = (omega arith, placed-one (now (c .before .args .out)) (c .before .args .k) (c .before .args .code) (c .if1 .taken))
 
@@ -24,4 +15,4 @@ returns-2 : tie.Need-returns-2
 returns-2 c = (omega arith, sym (placed-full (now (c .before .args .out)) (c .before .args .k) (c .before .args .code ∷ []) (c .if1 .left)))
 
 pub put-code-spec : {M : Type 1} → statement M
-put-code-spec = tie.close (tie.spec slice-write-out add-result same-length returns returns-2)
+put-code-spec = tie.close (tie.spec (λ c. search needs) (λ c. search needs) (λ c. search needs) returns returns-2)

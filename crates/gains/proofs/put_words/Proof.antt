@@ -42,18 +42,9 @@ known : (c : tie.After-r Inv-loop μ-loop)
     (c .r .given .0 .0 ≡ numberOf (take w (drop (w * l .loop .i) (drop (bitAt (a .pos)) (bitsOf (now (a .src))))))) × (c .r .given .0 .1 .0 ≡ posOf (bitAt (a .pos) + w * (l .loop .i + 1)))
 known c = same-number (c .before .before .read-u32 .result) _ _ _ _ (c .r .given .1) (word (c .before .before))
 
-word-bits-requires : tie.Need-word-bits-requires Inv-loop μ-loop
-word-bits-requires c κs = search needs
-
 loop-holds : tie.Need-loop-holds Inv-loop μ-loop
 unfolding codesFrom
 loop-holds c = (omega arith, omega arith, filled-start (now (c .before .before .before .args .out)) 0 (omega arith))
-
-read-u32-requires : tie.Need-read-u32-requires Inv-loop μ-loop
-read-u32-requires c κs = search needs
-
-enum-told : tie.Need-enum-told Inv-loop μ-loop
-enum-told c = search needs
 
 same-length : tie.Need-same-length Inv-loop μ-loop
 same-length c = let l = c .before .before .before .before in let e = filled-length (omega arith) (l .loop .inv .2) in search needs
@@ -64,9 +55,6 @@ returns c =
     let z : _≡_ {A = ℕ} 0 1 = sym (ap (tagOf the-type) (word q)) ∙ c .before .match .keys1 in
     absurd (omega arith)
 
-enum-known-r : tie.Need-enum-known-r Inv-loop μ-loop
-enum-known-r c = search needs
-
 put-word-requires : tie.Need-put-word-requires Inv-loop μ-loop
 put-word-requires c κs =
     let r = c .before .before in
@@ -76,12 +64,6 @@ put-word-requires c κs =
     let e = filled-length (omega arith) f in
     let n = f .end in
     (omega arith, rw (known r .0) (word-small (a .gaqmod) _))
-
-add-i : tie.Need-add-i Inv-loop μ-loop
-add-i c = search needs
-
-loop-less : tie.Need-loop-less Inv-loop μ-loop
-loop-less c = search needs
 
 loop-again : tie.Need-loop-again Inv-loop μ-loop
 loop-again c =
@@ -110,19 +92,6 @@ returns-2 c =
 pub put-words-spec : {M : Type 1} → statement M
 put-words-spec =
     tie.close
-    (tie.spec
-    Inv-loop
-    μ-loop
-    word-bits-requires
-    loop-holds
-    read-u32-requires
-    enum-told
-    same-length
-    returns
-    enum-known-r
-    put-word-requires
-    add-i
-    loop-less
-    loop-again
-    same-length-2
+    (tie.spec Inv-loop μ-loop (λ c κs. search needs) loop-holds (λ c κs. search needs) (λ c. search needs) same-length
+    returns (λ c. search needs) put-word-requires (λ c. search needs) (λ c. search needs) loop-again same-length-2
     returns-2)

@@ -13,12 +13,9 @@ returns-2 : tie.Need-returns-2
 unfolding wordsRead
 returns-2 c = simp (ne-eqb _ _ (c .before .if1 .left), eq-eqb _ _ (c .if2 .taken))
 
-least-requires : tie.Need-least-requires
-least-requires c κs = search needs
-
 returns-3 : tie.Need-returns-3
 unfolding wordsRead
 returns-3 c = simp (ne-eqb _ _ (c .before .before .if1 .left), ne-eqb _ _ (c .before .if2 .left), c .least .ensures)
 
 pub words-read-spec : {M : Type 1} → statement M
-words-read-spec = tie.close (tie.spec returns returns-2 least-requires returns-3)
+words-read-spec = tie.close (tie.spec returns returns-2 (λ c κs. search needs) returns-3)

@@ -12,17 +12,8 @@ use Rattle.levels.proofs.code_bits.Tie as tie
 bits : (c : tie.After-mant) → (3 ≤ c .mant .result) × (c .mant .result ≤ 16)
 bits c = rw (c .mant .ensures) (mant-bits (c .before .args .hebap) (c .before .pre .0) (c .before .pre .1))
 
-mant-requires : tie.Need-mant-requires
-mant-requires c κs = search needs
-
-enum-told : tie.Need-enum-told
-enum-told c = search needs
-
 small-bits-requires : tie.Need-small-bits-requires
 small-bits-requires c κs = bits (c .before .before) .0
-
-enum-told-2 : tie.Need-enum-told-2
-enum-told-2 c = search needs
 
 returns : tie.Need-returns
 returns c = rw (c .before .enum-told2 .given .1, eq-eqb _ _ (c .if1 .taken)) (c .before .before .before .mant .ensures)
@@ -53,14 +44,5 @@ returns-3 c =
 pub code-bits-spec : {M : Type 1} → statement M
 code-bits-spec =
     tie.close
-    (tie.spec
-    mant-requires
-    enum-told
-    small-bits-requires
-    enum-told-2
-    returns
-    small-bits-requires-2
-    large-bits-requires
-    add-result
-    returns-2
-    returns-3)
+    (tie.spec (λ c κs. search needs) (λ c. search needs) small-bits-requires (λ c. search needs) returns
+    small-bits-requires-2 large-bits-requires add-result returns-2 returns-3)

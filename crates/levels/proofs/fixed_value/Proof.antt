@@ -1,17 +1,14 @@
 -- `levels::fixed_value` meets its contract. Assumes nothing.
-use mathlib.Core.Path.{_∙_}
 use mir.Syntax.{w32}
 use mir.Val.{toZ, ofZ}
-use Rattle.levels.specs.Codes.{largeBits}
-use Rattle.levels.proofs.Signed.{back, in-float, passed-small, large-width, asked}
-use Rattle.levels.proofs.Common.{large-is, fixed-value-by}
+use Rattle.levels.proofs.Signed.{back, in-float, passed-small}
+use Rattle.levels.proofs.Common.{large-asked, fixed-value-by}
 use Rattle.levels.proofs.fixed_value.Statement.{statement}
 use Rattle.levels.proofs.fixed_value.Tie as tie
 
 signed-code-requires : tie.Need-signed-code-requires
 signed-code-requires c κs =
-    let a = c .args in
-    asked largeBits large-width (a .hebap) 1 (a .s .large) (a .u) (c .pre .0) (large-is (a .hebap) 1 (a .s) (c .pre .1 .0)) (c .pre .1 .1)
+    large-asked (c .args .s) (c .pre .0) (c .args .u) (c .pre .1 .1)
 
 int-to-float-x : tie.Need-int-to-float-x
 int-to-float-x c =
@@ -23,9 +20,7 @@ returns : tie.Need-returns
 returns c =
     let s = c .before .before .before .before .before in
     let k = c .before .before .before .before .signed-code in
-    let a = s .args in
-    fixed-value-by (a .hebap) (a .s) (s .pre .1 .0) (s .pre .0 .0) (s .pre .0 .1) (a .u) (toZ w32 (ofZ w32 (k .result)))
-    (back w32 (k .result) (k .ok) (k .ensures ∙ rw (large-is (a .hebap) 1 (a .s) (s .pre .1 .0))))
+    fixed-value-by (s .args .s) (s .pre .0) (s .pre .1 .0) (s .args .u) (toZ w32 (ofZ w32 (k .result))) (back w32 (k .result) (k .ok) (k .ensures))
 
 pub fixed-value-spec : {M : Type 1} → statement M
 fixed-value-spec = tie.close (tie.spec signed-code-requires int-to-float-x returns)

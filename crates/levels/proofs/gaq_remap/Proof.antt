@@ -1,16 +1,10 @@
 -- `levels::gaq_remap` meets its contract. Assumes nothing.
-use mathlib.Core.Path.{_≡_, _∙_, ap}
-use Rattle.levels.specs.Work.{remapOf, remapBy}
+use mathlib.Core.Path.{_∙_, ap}
+use Rattle.levels.specs.Work.{remapBy}
 use Rattle.levels.proofs.Remapping.{remap-by}
 use borrow.Author.Needs.{needs}
 use Rattle.levels.proofs.gaq_remap.Statement.{statement}
 use Rattle.levels.proofs.gaq_remap.Tie as tie
-
-remap-of-requires : tie.Need-remap-of-requires
-remap-of-requires c κs = search needs
-
-remap-by-requires : tie.Need-remap-by-requires
-remap-by-requires c κs = search needs
 
 returns : tie.Need-returns
 returns c =
@@ -18,4 +12,4 @@ returns c =
     c .remap-by .ensures ∙ ap (λ r. remapBy r (x .x)) (c .before .remap-of .ensures) ∙ remap-by (x .hebap) (x .gk) (x .x)
 
 pub gaq-remap-spec : {M : Type 1} → statement M
-gaq-remap-spec = tie.close (tie.spec remap-of-requires remap-by-requires returns)
+gaq-remap-spec = tie.close (tie.spec (λ c κs. search needs) (λ c κs. search needs) returns)

@@ -4,9 +4,6 @@ use borrow.Author.Needs.{needs}
 use Rattle.levels.proofs.large_bits.Statement.{statement}
 use Rattle.levels.proofs.large_bits.Tie as tie
 
-sub-result : tie.Need-sub-result
-sub-result c = search needs
-
 returns : tie.Need-returns
 returns c = simp (eq-eqb _ _ (c .if1 .taken))
 
@@ -14,4 +11,4 @@ returns-2 : tie.Need-returns-2
 returns-2 c = simp (ne-eqb _ _ (c .if1 .left))
 
 pub large-bits-spec : {M : Type 1} → statement M
-large-bits-spec = tie.close (tie.spec sub-result returns returns-2)
+large-bits-spec = tie.close (tie.spec (λ c. search needs) returns returns-2)

@@ -4,47 +4,35 @@ use borrow.Author.Needs.{needs}
 use mir.Syntax.{w32}
 use mir.Val.{toZ, ofZ}
 use Rattle.levels.specs.declared.Level.{Level}
-use Rattle.levels.specs.Codes.{smallBits, largeBits}
 use Rattle.levels.specs.Value.{levelOf}
-use Rattle.levels.proofs.Signed.{back, in-float, passed-small, small-width, large-width, asked, small-fits}
-use Rattle.levels.proofs.Common.{small-is, large-is, small-value-by, large-value-by}
+use Rattle.levels.proofs.Signed.{back, in-float, passed-small, small-fits}
+use Rattle.levels.proofs.Common.{small-asked, large-asked, small-value-by, large-value-by}
 use Rattle.levels.proofs.level_of.Statement.{statement}
 use Rattle.levels.proofs.level_of.Tie as tie
-
-enum-known-code : tie.Need-enum-known-code
-enum-known-code c = search needs
 
 signed-code-requires : tie.Need-signed-code-requires
 signed-code-requires c κs =
     let s = c .before .before .before in
     let u = c .before .code .given in
-    asked smallBits small-width (s .args .hebap) (s .args .gk) (s .args .s .small) (u .0 .0) (s .pre .0) (small-is (s .args .hebap) (s .args .gk) (s .args .s) (s .pre .1 .0))
-    (small-fits (s .args .hebap) (s .args .gk) _ _ (s .pre .1 .1) (u .1))
+    small-asked (s .args .s) (s .pre .0) (u .0 .0) (small-fits (s .args .s .hebap) (s .args .s .gk) _ _ (s .pre .1) (u .1))
 
-int-to-float-t9 : tie.Need-int-to-float-t9
-int-to-float-t9 c =
+int-to-float-t7 : tie.Need-int-to-float-t7
+int-to-float-t7 c =
     let d = c .before .before in
     let k = c .before .signed-code in
     in-float (toZ w32 (ofZ w32 (k .result))) (passed-small (d .before .before .before .args .s .small) (d .before .code .given .0 .0) (k .result) (signed-code-requires d tt) (k .ok) (k .ensures))
-
-enum-known-code-2 : tie.Need-enum-known-code-2
-enum-known-code-2 c = search needs
 
 signed-code-requires-2 : tie.Need-signed-code-requires-2
 signed-code-requires-2 c κs =
     let s = c .before .before .before in
     let u = c .before .code2 .given in
-    asked largeBits large-width (s .args .hebap) (s .args .gk) (s .args .s .large) (u .0 .0) (s .pre .0) (large-is (s .args .hebap) (s .args .gk) (s .args .s) (s .pre .1 .0))
-    (rw (u .1) at (s .pre .1 .1))
+    large-asked (s .args .s) (s .pre .0) (u .0 .0) (rw (u .1) at (s .pre .1))
 
 int-to-float-remap-by : tie.Need-int-to-float-remap-by
 int-to-float-remap-by c =
     let d = c .before .before in
     let k = c .before .signed-code2 in
     in-float (toZ w32 (ofZ w32 (k .result))) (passed-small (d .before .before .before .args .s .large) (d .before .code2 .given .0 .0) (k .result) (signed-code-requires-2 d tt) (k .ok) (k .ensures))
-
-remap-by-requires : tie.Need-remap-by-requires
-remap-by-requires c κs = search needs
 
 returns : tie.Need-returns
 unfolding levelOf
@@ -53,11 +41,7 @@ returns c =
     let s = d .before .before .before in
     let u = d .before .code .given in
     let k = c .before .before .signed-code in
-    let e = s .pre .1 .0 in
-    rw (u .1)
-    (ap Level.Small
-    (small-value-by (s .args .hebap) (s .args .gk) (s .args .s) e (s .pre .0 .0) (s .pre .0 .1) (u .0 .0) (toZ w32 (ofZ w32 (k .result)))
-    (back w32 (k .result) (k .ok) (k .ensures ∙ rw (small-is (s .args .hebap) (s .args .gk) (s .args .s) e)))))
+    rw (u .1) (ap Level.Small (small-value-by (s .args .s) (s .pre .0) (u .0 .0) (toZ w32 (ofZ w32 (k .result))) (back w32 (k .result) (k .ok) (k .ensures))))
 
 returns-2 : tie.Need-returns-2
 unfolding levelOf
@@ -66,22 +50,12 @@ returns-2 c =
     let s = d .before .before .before in
     let u = d .before .code2 .given in
     let k = c .before .before .before .signed-code2 in
-    let e = s .pre .1 .0 in
     rw (u .1)
     (ap Level.Large
-    (c .remap-by .ensures ∙ large-value-by (s .args .hebap) (s .args .gk) (s .args .s) e (s .pre .0 .0) (s .pre .0 .1) (u .0 .0) (toZ w32 (ofZ w32 (k .result)))
-    (back w32 (k .result) (k .ok) (k .ensures ∙ rw (large-is (s .args .hebap) (s .args .gk) (s .args .s) e)))))
+    (c .remap-by .ensures ∙ large-value-by (s .args .s) (s .pre .0) (u .0 .0) (toZ w32 (ofZ w32 (k .result))) (back w32 (k .result) (k .ok) (k .ensures))))
 
 pub level-of-spec : {M : Type 1} → statement M
 level-of-spec =
     tie.close
-    (tie.spec
-    enum-known-code
-    signed-code-requires
-    int-to-float-t9
-    enum-known-code-2
-    signed-code-requires-2
-    int-to-float-remap-by
-    remap-by-requires
-    returns
-    returns-2)
+    (tie.spec (λ c. search needs) signed-code-requires int-to-float-t7 (λ c. search needs) signed-code-requires-2
+    int-to-float-remap-by (λ c κs. search needs) returns returns-2)

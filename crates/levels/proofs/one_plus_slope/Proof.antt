@@ -12,9 +12,6 @@ use Rattle.levels.proofs.Sizes.{mag-abs, widened, widened-fits, row-siz
 use Rattle.levels.proofs.one_plus_slope.Statement.{statement}
 use Rattle.levels.proofs.one_plus_slope.Tie as tie
 
-slope-at-requires : tie.Need-slope-at-requires
-slope-at-requires c κs = search needs
-
 cast-result : tie.Need-cast-result
 cast-result c = widened-fits (c .slope-at .result) (c .slope-at .ok)
 
@@ -33,4 +30,4 @@ returns : tie.Need-returns
 returns c = toZ-ofZ w32 _ (add-result c) ∙ rw (a-is c)
 
 pub one-plus-slope-spec : {M : Type 1} → statement M
-one-plus-slope-spec = tie.close (tie.spec slope-at-requires cast-result add-result returns)
+one-plus-slope-spec = tie.close (tie.spec (λ c κs. search needs) cast-result add-result returns)

@@ -7,12 +7,9 @@ use borrow.Author.Needs.{needs}
 use Rattle.levels.proofs.q15.Statement.{statement}
 use Rattle.levels.proofs.q15.Tie as tie
 
-int-to-float-result : tie.Need-int-to-float-result
-int-to-float-result c = search needs
-
 returns : tie.Need-returns
 unfolding q15
 returns c = ap q15 (toZ-ofZ w16 (c .before .args .v) (c .before .fits .v))
 
 pub q15-spec : {M : Type 1} → statement M
-q15-spec = tie.close (tie.spec int-to-float-result returns)
+q15-spec = tie.close (tie.spec (λ c. search needs) returns)

@@ -9,24 +9,6 @@ use borrow.Author.Needs.{needs}
 use Rattle.levels.proofs.remap_of.Statement.{statement}
 use Rattle.levels.proofs.remap_of.Tie as tie
 
-slope-at-requires : tie.Need-slope-at-requires
-slope-at-requires c κs = search needs
-
-q15-requires : tie.Need-q15-requires
-q15-requires c κs = search needs
-
-offset-by-sign-requires : tie.Need-offset-by-sign-requires
-offset-by-sign-requires c κs = search needs
-
-q15-requires-2 : tie.Need-q15-requires-2
-q15-requires-2 c κs = search needs
-
-offset-by-sign-requires-2 : tie.Need-offset-by-sign-requires-2
-offset-by-sign-requires-2 c κs = search needs
-
-q15-requires-3 : tie.Need-q15-requires-3
-q15-requires-3 c κs = search needs
-
 returns : tie.Need-returns
 unfolding remapOf
 returns c =
@@ -44,11 +26,5 @@ returns c =
 pub remap-of-spec : {M : Type 1} → statement M
 remap-of-spec =
     tie.close
-    (tie.spec
-    slope-at-requires
-    q15-requires
-    offset-by-sign-requires
-    q15-requires-2
-    offset-by-sign-requires-2
-    q15-requires-3
-    returns)
+    (tie.spec (λ c κs. search needs) (λ c κs. search needs) (λ c κs. search needs) (λ c κs. search needs)
+    (λ c κs. search needs) (λ c κs. search needs) returns)

@@ -5,20 +5,17 @@ use native.Mathlib.Nat.{le-trans}
 use lib.Dec.{le→leb, lit≤}
 use lib.IntN.{pos}
 use lib.Ieee.{binary32, inFloat, ofInt}
-use Rattle.levels.proofs.Signed.{two-to-cap}
+use Rattle.levels.proofs.Signed.{pow2-cap}
 use borrow.Author.Needs.{needs}
 use Rattle.levels.proofs.scale.Statement.{statement}
 use Rattle.levels.proofs.scale.Tie as tie
 
-two-to-requires : tie.Need-two-to-requires
-two-to-requires c κs = search needs
-
 int-to-float-result : tie.Need-int-to-float-result
 unfolding inFloat
-int-to-float-result c = le→leb _ _ (subst (λ (k : ℕ). k ≤ 2 ^ 24) (sym (c .before .two-to .ensures)) (le-trans (two-to-cap (c .before .before .args .n) (c .before .before .pre)) (lit≤ tt)))
+int-to-float-result c = le→leb _ _ (subst (λ (k : ℕ). k ≤ 2 ^ 24) (sym (c .before .pow2 .ensures)) (le-trans (pow2-cap (c .before .before .args .n) (c .before .before .pre)) (lit≤ tt)))
 
 returns : tie.Need-returns
-returns c = ap (λ (k : ℕ). ofInt binary32 (pos k)) (c .before .two-to .ensures)
+returns c = ap (λ (k : ℕ). ofInt binary32 (pos k)) (c .before .pow2 .ensures)
 
 pub scale-spec : {M : Type 1} → statement M
-scale-spec = tie.close (tie.spec two-to-requires int-to-float-result returns)
+scale-spec = tie.close (tie.spec (λ c κs. search needs) int-to-float-result returns)

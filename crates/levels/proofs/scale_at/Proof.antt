@@ -10,12 +10,9 @@ use mir.Syntax.{w32}
 use mir.Val.{toZ, ofZ}
 use mir.ValLaws.{toZ-ofZ}
 use Rattle.levels.proofs.Signed.{back}
-use Rattle.levels.proofs.ScaleRows.{row-end, small-unit-fits, large-unit-fits, up-fits, below-fits, neg-is, neg-fits, scale-is}
+use Rattle.levels.proofs.ScaleRows.{row-end, small-unit-fits, large-unit-fits, up-fits, below-fits, neg-is, neg-fits, row-is-scale}
 use Rattle.levels.proofs.scale_at.Statement.{statement}
 use Rattle.levels.proofs.scale_at.Tie as tie
-
-row-of-requires : tie.Need-row-of-requires
-row-of-requires c κs = search needs
 
 -- the row lies in the table
 room : (c : tie.After-row-of) → c .row-of .result + 11 ≤ length (now (c .before .before .args .t))
@@ -67,7 +64,7 @@ returns : tie.Need-returns
 returns c =
     let r = c .before .before .before .before .before .before .before .before .before .before .before in
     let s = r .before .before in
-    scale-is (now (s .args .t)) (s .pre .1) (s .args .hebap) (s .args .gk) (s .pre .0 .0) (s .pre .0 .1) (r .row-of .result) (r .row-of .ensures) _ _ _ _ _ _ _ _ _ _ _
+    row-is-scale (now (s .args .t)) (s .pre .1) (s .args .hebap) (s .args .gk) (s .pre .0 .0) (s .pre .0 .1) (r .row-of .result) (r .row-of .ensures) _ _ _ _ _ _ _ _ _ _ _
     (c .before .before .before .before .before .before .before .before .before .before .fraction .ensures) (c .before .before .before .before .before .before .before .before .before .fraction2 .ensures) (c .before .before .before .before .before .before .before .before .fraction3 .ensures) (c .before .before .before .before .before .before .before .entry .ensures) (c .before .before .before .before .before .before .entry2 .ensures) (c .before .before .before .before .before .fraction4 .ensures) (c .before .before .before .before .fraction5 .ensures)
     (back w32 (c .before .before .before .whole .result) (c .before .before .before .whole .ok) (c .before .before .before .whole .ensures)) (back w32 (c .before .before .whole2 .result) (c .before .before .whole2 .ok) (c .before .before .whole2 .ensures)) (back w32 (c .before .whole3 .result) (c .before .whole3 .ok) (c .before .whole3 .ensures))
     (toZ-ofZ w32 _ (sub-t17 c) ∙ rw (below-is c) (neg-is (getD (now (s .args .t)) (r .row-of .result + 10) 0)))
@@ -75,18 +72,6 @@ returns c =
 pub scale-at-spec : {M : Type 1} → statement M
 scale-at-spec =
     tie.close
-    (tie.spec
-    row-of-requires
-    fraction-requires
-    fraction-requires-2
-    fraction-requires-3
-    entry-requires
-    entry-requires-2
-    fraction-requires-4
-    fraction-requires-5
-    whole-requires
-    whole-requires-2
-    whole-requires-3
-    whole-requires-4
-    sub-t17
-    returns)
+    (tie.spec (λ c κs. search needs) fraction-requires fraction-requires-2 fraction-requires-3 entry-requires
+    entry-requires-2 fraction-requires-4 fraction-requires-5 whole-requires whole-requires-2 whole-requires-3
+    whole-requires-4 sub-t17 returns)

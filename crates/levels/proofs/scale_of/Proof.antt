@@ -1,5 +1,5 @@
 -- `levels::scale_of` meets its contract. Assumes nothing.
-use Prim.Native.Nat.{_-_, _*_, _^_, _≤_}
+use Prim.Native.Nat.{_-_, _^_, _≤_, _<_}
 use mathlib.Core.Path.{_≡_, _∙_}
 use mathlib.Core.Bool.{true, false, cond}
 use native.Mathlib.Omega.{arith}
@@ -12,16 +12,13 @@ use Rattle.tables.specs.Tables.{mantBits}
 use Rattle.tables.proofs.Rules.{mant-bits}
 use Rattle.levels.specs.Codes.{largeBits}
 use Rattle.levels.specs.Exact.{slope, offset, offsetBelow}
-use Rattle.levels.proofs.Signed.{back, large-width}
+use Rattle.levels.proofs.Signed.{back, large-width, cast-power, power-fits}
 use Rattle.levels.proofs.Sizes.{widened, widened-fits, unit-size, offset-size}
 use Rattle.levels.proofs.Common.{all-is}
 use Rattle.levels.proofs.scale_of.Statement.{statement}
 use Rattle.levels.proofs.scale_of.Tie as tie
 
 -- ---- the bits
-
-mant-requires : tie.Need-mant-requires
-mant-requires c κs = search needs
 
 m-bounds : (c : tie.After-mant) → (3 ≤ c .mant .result) × (c .mant .result ≤ 16)
 m-bounds c = rw (c .mant .ensures) (mant-bits (c .before .args .hebap) (c .before .pre .0) (c .before .pre .1))
@@ -36,9 +33,6 @@ large-bounds : (c : tie.After-large-bits) → (1 ≤ c .large-bits .result) × (
 large-bounds c =
     let m = m-bounds (c .before) in
     rw (c .large-bits .ensures) (large-width (c .before .mant .result) (c .before .before .args .gk) (m .0) (m .1))
-
-remap-of-requires : tie.Need-remap-of-requires
-remap-of-requires c κs = search needs
 
 small-bits-requires : tie.Need-small-bits-requires
 small-bits-requires c κs = m-bounds (c .before .before) .0
@@ -59,17 +53,17 @@ scale-requires-2 c κs = omega (arith, large-bounds (c .before .before .before))
 
 -- ---- the units
 
-sub-power-of-two : tie.Need-sub-power-of-two
-sub-power-of-two c = omega (arith, m-bounds (c .before .before .before .before .before))
+sub-pow2 : tie.Need-sub-pow2
+sub-pow2 c = omega (arith, m-bounds (c .before .before .before .before .before))
 
-power-of-two-requires : tie.Need-power-of-two-requires
-power-of-two-requires c κs = omega (arith, m-bounds (c .before .before .before .before .before))
+pow2-requires : tie.Need-pow2-requires
+pow2-requires c κs = omega (arith, m-bounds (c .before .before .before .before .before))
 
-one-plus-slope-requires : tie.Need-one-plus-slope-requires
-one-plus-slope-requires c κs = search needs
+unit-few : (c : tie.After-pow2) → 31 - c .before .before .before .before .before .before .mant .result < 31
+unit-few c = omega (arith, m-bounds (c .before .before .before .before .before .before))
 
-power-at-requires : tie.Need-power-at-requires
-power-at-requires c κs = search needs
+cast-t15 : tie.Need-cast-t15
+cast-t15 c = record { sfits = power-fits (c .pow2 .result) _ (unit-few c) (c .pow2 .ensures) }
 
 -- each as it is read back
 z-is : (c : tie.After-one-plus-slope) → let s = c .before .before .before .before .before .before .before .before in
@@ -91,9 +85,6 @@ zp-is c = back w32 (c .times .result) (c .times .ok) (c .times .ensures ∙ rw (
 
 -- ---- the offsets
 
-offset-by-sign-requires : tie.Need-offset-by-sign-requires
-offset-by-sign-requires c κs = search needs
-
 cast-times : tie.Need-cast-times
 cast-times c = widened-fits (c .offset-by-sign .result) (c .offset-by-sign .ok)
 
@@ -109,9 +100,6 @@ times-requires-2 c κs =
 up-is : (c : tie.After-times2) → let s = c .before .before .before .before .before .before .before .before .before .before .before .before in
     toZ w32 (ofZ w32 (c .times2 .result)) ≡ offset (s .args .hebap) (s .args .gk) *ℤ pos (2 ^ 15)
 up-is c = back w32 (c .times2 .result) (c .times2 .ok) (c .times2 .ensures ∙ rw (b-is (c .before)))
-
-offset-by-sign-requires-2 : tie.Need-offset-by-sign-requires-2
-offset-by-sign-requires-2 c κs = search needs
 
 cast-times-2 : tie.Need-cast-times-2
 cast-times-2 c = widened-fits (c .offset-by-sign2 .result) (c .offset-by-sign2 .ok)
@@ -142,33 +130,16 @@ returns c =
     let m = l .before in
     let x = m .before .args in
     all-is (x .hebap) (x .gk) (r .remap-of .result) (n .small-bits .result) (l .large-bits .result) (v .before .scale .result) (v .scale2 .result)
-    (toZ w32 (ofZ w32 (w .power-of-two .result))) (toZ w32 (ofZ w32 (t .times .result)))
+    (toZ w32 (w .pow2 .result)) (toZ w32 (ofZ w32 (t .times .result)))
     (toZ w32 (ofZ w32 (c .before .before .times2 .result))) (toZ w32 (ofZ w32 (c .times3 .result)))
     (r .remap-of .ensures) (n .small-bits .ensures ∙ rw (m .mant .ensures)) (large-is l) (v .before .scale .ensures ∙ rw (m .mant .ensures)) (v .scale2 .ensures ∙ rw (large-is l))
-    (back w32 (w .power-of-two .result) (w .power-of-two .ok) (w .power-of-two .ensures ∙ rw (m .mant .ensures)))
+    (cast-power (w .pow2 .result) _ (unit-few w) (w .pow2 .ensures) ∙ rw (m .mant .ensures))
     (zp-is t) (up-is (c .before .before)) (below-is c)
 
 pub scale-of-spec : {M : Type 1} → statement M
 scale-of-spec =
     tie.close
-    (tie.spec
-    mant-requires
-    large-bits-requires
-    remap-of-requires
-    small-bits-requires
-    sub-scale
-    scale-requires
-    sub-scale-2
-    scale-requires-2
-    sub-power-of-two
-    power-of-two-requires
-    one-plus-slope-requires
-    power-at-requires
-    times-requires
-    offset-by-sign-requires
-    cast-times
-    times-requires-2
-    offset-by-sign-requires-2
-    cast-times-2
-    times-requires-3
-    returns)
+    (tie.spec (λ c κs. search needs) large-bits-requires (λ c κs. search needs) small-bits-requires sub-scale
+    scale-requires sub-scale-2 scale-requires-2 sub-pow2 pow2-requires cast-t15 (λ c κs. search needs)
+    (λ c κs. search needs) times-requires (λ c κs. search needs) cast-times times-requires-2 (λ c κs. search needs)
+    cast-times-2 times-requires-3 returns)

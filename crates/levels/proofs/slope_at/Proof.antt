@@ -6,20 +6,11 @@ use borrow.Author.Needs.{needs}
 use Rattle.levels.proofs.slope_at.Statement.{statement}
 use Rattle.levels.proofs.slope_at.Tie as tie
 
-gaq-remap-at-requires : tie.Need-gaq-remap-at-requires
-gaq-remap-at-requires c κs = search needs
-
 returns : tie.Need-returns
 returns c = back w16 (c .gaq-remap-at .result) (c .gaq-remap-at .ok) (simp (eq-eqb _ _ (c .before .if1 .taken)) (c .gaq-remap-at .ensures))
 
-gaq-remap-at-requires-2 : tie.Need-gaq-remap-at-requires-2
-gaq-remap-at-requires-2 c κs = search needs
-
 returns-2 : tie.Need-returns-2
 returns-2 c = back w16 (c .gaq-remap-at2 .result) (c .gaq-remap-at2 .ok) (simp (ne-eqb _ _ (c .before .before .if1 .left), eq-eqb _ _ (c .before .if2 .taken)) (c .gaq-remap-at2 .ensures))
-
-gaq-remap-at-requires-3 : tie.Need-gaq-remap-at-requires-3
-gaq-remap-at-requires-3 c κs = search needs
 
 returns-3 : tie.Need-returns-3
 returns-3 c = back w16 (c .gaq-remap-at3 .result) (c .gaq-remap-at3 .ok) (simp (ne-eqb _ _ (c .before .before .if1 .left), ne-eqb _ _ (c .before .if2 .left)) (c .gaq-remap-at3 .ensures))
@@ -27,10 +18,4 @@ returns-3 c = back w16 (c .gaq-remap-at3 .result) (c .gaq-remap-at3 .ok) (simp (
 pub slope-at-spec : {M : Type 1} → statement M
 slope-at-spec =
     tie.close
-    (tie.spec
-    gaq-remap-at-requires
-    returns
-    gaq-remap-at-requires-2
-    returns-2
-    gaq-remap-at-requires-3
-    returns-3)
+    (tie.spec (λ c κs. search needs) returns (λ c κs. search needs) returns-2 (λ c κs. search needs) returns-3)

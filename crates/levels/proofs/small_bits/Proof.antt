@@ -4,12 +4,6 @@ use borrow.Author.Needs.{needs}
 use Rattle.levels.proofs.small_bits.Statement.{statement}
 use Rattle.levels.proofs.small_bits.Tie as tie
 
-sub-result : tie.Need-sub-result
-sub-result c = search needs
-
-sub-result-2 : tie.Need-sub-result-2
-sub-result-2 c = search needs
-
 returns : tie.Need-returns
 returns c = simp (eq-eqb _ _ (c .if1 .taken))
 
@@ -17,4 +11,4 @@ returns-2 : tie.Need-returns-2
 returns-2 c = simp (ne-eqb _ _ (c .if1 .left))
 
 pub small-bits-spec : {M : Type 1} → statement M
-small-bits-spec = tie.close (tie.spec sub-result sub-result-2 returns returns-2)
+small-bits-spec = tie.close (tie.spec (λ c. search needs) (λ c. search needs) returns returns-2)

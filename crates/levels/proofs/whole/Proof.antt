@@ -7,18 +7,9 @@ use native.Mathlib.Omega.{arith}
 use borrow.Author.Needs.{needs}
 use Rattle.levels.proofs.whole.Statement.{statement}
 use Rattle.levels.proofs.whole.Tie as tie
-use Rattle.levels.proofs.whole.Reads as reads
-use Rattle.levels.proofs.whole.Lts as lts
-use Rattle.levels.proofs.entry.Reads as entry-reads
-
-entry-requires : tie.Need-entry-requires
-entry-requires c κs = search needs
-
-cast-result : tie.Need-cast-result
-cast-result c = search needs
 
 returns : tie.Need-returns
 returns c = let e = c .entry .ensures in toZ-pos w32 (c .entry .result) (omega (arith, c .before .before .pre .1)) ∙ ap pos e
 
 pub whole-spec : {M : Type 1} → statement M
-whole-spec = tie.close (tie.spec entry-requires cast-result returns)
+whole-spec = tie.close (tie.spec (λ c κs. search needs) (λ c. search needs) returns)

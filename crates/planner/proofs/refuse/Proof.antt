@@ -4,12 +4,9 @@ use borrow.Author.Needs.{needs}
 use Rattle.planner.proofs.refuse.Statement.{statement}
 use Rattle.planner.proofs.refuse.Tie as tie
 
-no-gains-requires : tie.Need-no-gains-requires
-no-gains-requires c κs = search needs
-
 returns : tie.Need-returns
 unfolding refusalOf noPlan
 returns c = rw (c .no-gains .ensures)
 
 pub refuse-spec : {M : Type 1} → statement M
-refuse-spec = tie.close (tie.spec no-gains-requires returns)
+refuse-spec = tie.close (tie.spec (λ c κs. search needs) returns)

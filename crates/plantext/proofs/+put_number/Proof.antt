@@ -26,110 +26,30 @@ abbrev put-number-below : ℕ → In 1 put-number-kinds.ps
 put-number-below t =
     and 1 put-number-kinds.ps (falls 1 put-number-kinds.ps _<_ μ-put-number t) put-number.Pre
 
-put-number-returns : (t : ℕ) → put-number-lts.Need-returns (
-  narrow-reads.Asked,
-  narrow-reads.Learnt,
-  put-number-below t,
-  put-number.Post,
-) (put-number-at t) put-number.Post
+-- what is known of the functions that it calls
+abbrev calls : ℕ → put-number-lts.Claims
+calls t = (narrow-reads.Asked, narrow-reads.Learnt, put-number-below t, put-number.Post)
+
+put-number-returns : (t : ℕ) → put-number-lts.Need-returns (calls t) (put-number-at t) put-number.Post
 put-number-returns t c =
     let s = c .before .before in
     let r = s .pre .1 in
     rw (c .if1 .taken) (put-done (number-none (now (s .args .out)) (s .args .at) (s .args .n) (omega arith)))
 
-put-number-add-narrow : (t : ℕ) → put-number-lts.Need-add-narrow (
-  narrow-reads.Asked,
-  narrow-reads.Learnt,
-  put-number-below t,
-  put-number.Post,
-) (put-number-at t) put-number.Post
-put-number-add-narrow t c = search needs
-
-put-number-narrow-requires : (t : ℕ) → put-number-lts.Need-narrow-requires (
-  narrow-reads.Asked,
-  narrow-reads.Learnt,
-  put-number-below t,
-  put-number.Post,
-) (put-number-at t) put-number.Post
-put-number-narrow-requires t c κs = search needs
-
-put-number-slice-write-out : (t : ℕ) → put-number-lts.Need-slice-write-out (
-  narrow-reads.Asked,
-  narrow-reads.Learnt,
-  put-number-below t,
-  put-number.Post,
-) (put-number-at t) put-number.Post
-put-number-slice-write-out t c = search needs
-
-put-number-add-result : (t : ℕ) → put-number-lts.Need-add-result (
-  narrow-reads.Asked,
-  narrow-reads.Learnt,
-  put-number-below t,
-  put-number.Post,
-) (put-number-at t) put-number.Post
-put-number-add-result t c = search needs
-
-put-number-same-length : (t : ℕ) → put-number-lts.Need-same-length (
-  narrow-reads.Asked,
-  narrow-reads.Learnt,
-  put-number-below t,
-  put-number.Post,
-) (put-number-at t) put-number.Post
-put-number-same-length t c = search needs
-
-put-number-returns-2 : (t : ℕ) → put-number-lts.Need-returns-2 (
-  narrow-reads.Asked,
-  narrow-reads.Learnt,
-  put-number-below t,
-  put-number.Post,
-) (put-number-at t) put-number.Post
+put-number-returns-2 : (t : ℕ) → put-number-lts.Need-returns-2 (calls t) (put-number-at t) put-number.Post
 put-number-returns-2 t c =
     let s = c .before .before .before .before in
     let r = s .pre .1 in
     rw (c .narrow .ensures) (put-done (number-digit (now (s .args .out)) (s .args .at) (s .args .n) (s .args .places) (omega arith) r (c .before .if2 .taken)))
 
-put-number-sub-put-number : (t : ℕ) → put-number-lts.Need-sub-put-number (
-  narrow-reads.Asked,
-  narrow-reads.Learnt,
-  put-number-below t,
-  put-number.Post,
-) (put-number-at t) put-number.Post
-put-number-sub-put-number t c = search needs
-
-put-number-put-number-requires : (t : ℕ) → put-number-lts.Need-put-number-requires (
-  narrow-reads.Asked,
-  narrow-reads.Learnt,
-  put-number-below t,
-  put-number.Post,
-) (put-number-at t) put-number.Post
+put-number-put-number-requires : (t : ℕ) → put-number-lts.Need-put-number-requires (calls t) (put-number-at t) put-number.Post
 put-number-put-number-requires t c κs =
     let s = c .before .before .before .before in
     let m = s .pre .0 in
     let r = s .pre .1 in
     (omega arith, omega arith)
 
-put-number-add-narrow-2 : (t : ℕ) → put-number-lts.Need-add-narrow-2 (
-  narrow-reads.Asked,
-  narrow-reads.Learnt,
-  put-number-below t,
-  put-number.Post,
-) (put-number-at t) put-number.Post
-put-number-add-narrow-2 t c = search needs
-
-put-number-narrow-requires-2 : (t : ℕ) → put-number-lts.Need-narrow-requires-2 (
-  narrow-reads.Asked,
-  narrow-reads.Learnt,
-  put-number-below t,
-  put-number.Post,
-) (put-number-at t) put-number.Post
-put-number-narrow-requires-2 t c κs = search needs
-
-put-number-slice-write-out-2 : (t : ℕ) → put-number-lts.Need-slice-write-out-2 (
-  narrow-reads.Asked,
-  narrow-reads.Learnt,
-  put-number-below t,
-  put-number.Post,
-) (put-number-at t) put-number.Post
+put-number-slice-write-out-2 : (t : ℕ) → put-number-lts.Need-slice-write-out-2 (calls t) (put-number-at t) put-number.Post
 put-number-slice-write-out-2 t c =
     let p = c .before .before .before in
     let s = p .before .before .before .before .before in
@@ -139,12 +59,7 @@ put-number-slice-write-out-2 t c =
     let r = s .pre .1 in
     omega arith
 
-put-number-add-result-2 : (t : ℕ) → put-number-lts.Need-add-result-2 (
-  narrow-reads.Asked,
-  narrow-reads.Learnt,
-  put-number-below t,
-  put-number.Post,
-) (put-number-at t) put-number.Post
+put-number-add-result-2 : (t : ℕ) → put-number-lts.Need-add-result-2 (calls t) (put-number-at t) put-number.Post
 put-number-add-result-2 t c =
     let p = c .before .before .before in
     let s = p .before .before .before .before .before in
@@ -153,20 +68,7 @@ put-number-add-result-2 t c =
     let r = s .pre .1 in
     omega arith
 
-put-number-same-length-2 : (t : ℕ) → put-number-lts.Need-same-length-2 (
-  narrow-reads.Asked,
-  narrow-reads.Learnt,
-  put-number-below t,
-  put-number.Post,
-) (put-number-at t) put-number.Post
-put-number-same-length-2 t c = search needs
-
-put-number-returns-3 : (t : ℕ) → put-number-lts.Need-returns-3 (
-  narrow-reads.Asked,
-  narrow-reads.Learnt,
-  put-number-below t,
-  put-number.Post,
-) (put-number-at t) put-number.Post
+put-number-returns-3 : (t : ℕ) → put-number-lts.Need-returns-3 (calls t) (put-number-at t) put-number.Post
 put-number-returns-3 t c =
     let p = c .before .before .before in
     let s = p .before .before .before .before .before in
@@ -177,26 +79,9 @@ put-number-returns-3 t c =
     (put-done (number-more (now (s .args .out)) (s .args .at) (s .args .n) (s .args .places) (omega arith) r (omega arith) (p .put-number .last .0) (p .put-number .result) w))
 
 pub +put-number-spec : {M : Type 1} → statement M
-+put-number-spec = close μ-put-number λ t. put-number-lts.spec (
-  narrow-reads.Asked,
-  narrow-reads.Learnt,
-  put-number-below t,
-  put-number.Post,
-)
-    (put-number-at t)
-    put-number.Post
-    (put-number-returns t)
-    (put-number-add-narrow t)
-    (put-number-narrow-requires t)
-    (put-number-slice-write-out t)
-    (put-number-add-result t)
-    (put-number-same-length t)
-    (put-number-returns-2 t)
-    (put-number-sub-put-number t)
-    (put-number-put-number-requires t)
-    (put-number-add-narrow-2 t)
-    (put-number-narrow-requires-2 t)
-    (put-number-slice-write-out-2 t)
-    (put-number-add-result-2 t)
-    (put-number-same-length-2 t)
++put-number-spec =
+    close μ-put-number λ t. put-number-lts.spec (calls t) (put-number-at t) put-number.Post (put-number-returns t)
+    (λ c. search needs) (λ c κs. search needs) (λ c. search needs) (λ c. search needs) (λ c. search needs)
+    (put-number-returns-2 t) (λ c. search needs) (put-number-put-number-requires t) (λ c. search needs)
+    (λ c κs. search needs) (put-number-slice-write-out-2 t) (put-number-add-result-2 t) (λ c. search needs)
     (put-number-returns-3 t)

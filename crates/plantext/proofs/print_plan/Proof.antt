@@ -7,8 +7,7 @@ use mathlib.Core.Path.{_≡_, sym, _∙_}
 use denote.Ref.{now}
 use lib.ListN.{length}
 use lib.Seq.{length-take-le}
-use Rattle.planner.specs.Planning.{totalOf}
-use Rattle.writer.specs.Written.{gainsOf}
+use Rattle.planner.specs.Planning.{totalOf, gainsOf}
 use Rattle.plantext.specs.PlanText.{planText}
 use Rattle.plantext.proofs.Printing.{put-part, put-both, choice-fits, sizes-fit, field-line-fits}
 use Rattle.plantext.proofs.print_plan.Statement.{statement}
@@ -25,15 +24,6 @@ listed c =
     let e = length-take-le (p .count) (p .gains) (few c) in
     omega arith
 
-slice-aggregate-put-text : tie.Need-slice-aggregate-put-text
-slice-aggregate-put-text c = search needs
-
-put-text-requires : tie.Need-put-text-requires
-put-text-requires c κs = search needs
-
-array-share-prefix-gains : tie.Need-array-share-prefix-gains
-array-share-prefix-gains c = few (c .before .before .before .before .before .before .before .before .before)
-
 slice-aggregate-put-choice : tie.Need-slice-aggregate-put-choice
 slice-aggregate-put-choice c =
     let s = c .before .before .before .before .before .before .before .before .before .before in
@@ -43,9 +33,6 @@ put-choice-requires : tie.Need-put-choice-requires
 put-choice-requires c κs =
     let h = listed (c .before .before .before .before .before .before .before .before .before .before) in
     omega arith
-
-add-put-sizes : tie.Need-add-put-sizes
-add-put-sizes c = search needs
 
 put-sizes-requires : tie.Need-put-sizes-requires
 put-sizes-requires c κs =
@@ -64,9 +51,6 @@ put-field-line-requires c κs =
     let l = sizes-fit (p .payload) (totalOf p) in
     omega arith
 
-slice-aggregate-put-text-2 : tie.Need-slice-aggregate-put-text-2
-slice-aggregate-put-text-2 c = search needs
-
 put-text-requires-2 : tie.Need-put-text-requires-2
 put-text-requires-2 c κs =
     let s = c .before .before .before .before .before .before .before .before .before .before .before .before .before .before .before .before .before .before .before .before .before .before .before .before in
@@ -76,9 +60,6 @@ put-text-requires-2 c κs =
     let l = sizes-fit (p .payload) (totalOf p) in
     let m = field-line-fits (now (s .args .field)) in
     omega arith
-
-same-length : tie.Need-same-length
-same-length c = search needs
 
 returns : tie.Need-returns
 unfolding planText
@@ -104,17 +85,7 @@ returns c =
 
 pub print-plan-spec : {M : Type 1} → statement M
 print-plan-spec =
-    tie.close
-    (tie.spec
-    slice-aggregate-put-text
-    put-text-requires
-    array-share-prefix-gains
-    slice-aggregate-put-choice
-    put-choice-requires
-    add-put-sizes
-    put-sizes-requires
-    put-field-line-requires
-    slice-aggregate-put-text-2
-    put-text-requires-2
-    same-length
-    returns)
+    tie.close (tie.spec (λ c. search needs) (λ c κs. search needs)
+    (λ c. few (c .before .before .before .before .before .before .before .before .before)) slice-aggregate-put-choice
+    put-choice-requires (λ c. search needs) put-sizes-requires put-field-line-requires (λ c. search needs)
+    put-text-requires-2 (λ c. search needs) returns)

@@ -6,18 +6,6 @@ use Rattle.plantext.specs.PlanText.{refusedText}
 use Rattle.plantext.proofs.print_refused.Statement.{statement}
 use Rattle.plantext.proofs.print_refused.Tie as tie
 
-slice-aggregate-put-number-line : tie.Need-slice-aggregate-put-number-line
-slice-aggregate-put-number-line c = search needs
-
-wide-requires : tie.Need-wide-requires
-wide-requires c κs = search needs
-
-put-number-line-requires : tie.Need-put-number-line-requires
-put-number-line-requires c κs = search needs
-
-same-length : tie.Need-same-length
-same-length c = search needs
-
 returns : tie.Need-returns
 unfolding refusedText
 returns c =
@@ -28,10 +16,4 @@ returns c =
 
 pub print-refused-spec : {M : Type 1} → statement M
 print-refused-spec =
-    tie.close
-    (tie.spec
-    slice-aggregate-put-number-line
-    wide-requires
-    put-number-line-requires
-    same-length
-    returns)
+    tie.close (tie.spec (λ c. search needs) (λ c κs. search needs) (λ c κs. search needs) (λ c. search needs) returns)

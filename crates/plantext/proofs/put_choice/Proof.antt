@@ -10,23 +10,11 @@ use Rattle.plantext.proofs.Printing.{Put, put-done, put-part, put-both,
 use Rattle.plantext.proofs.put_choice.Statement.{statement}
 use Rattle.plantext.proofs.put_choice.Tie as tie
 
-slice-aggregate-put-number-line : tie.Need-slice-aggregate-put-number-line
-slice-aggregate-put-number-line c = search needs
-
-wide-requires : tie.Need-wide-requires
-wide-requires c κs = search needs
-
-put-number-line-requires : tie.Need-put-number-line-requires
-put-number-line-requires c κs = search needs
-
 put-gains-line-requires : tie.Need-put-gains-line-requires
 put-gains-line-requires c κs =
     let n = c .before .before .before in
     let h = number-line-fits modeName (n .before .wide .result) in
     omega arith
-
-same-length : tie.Need-same-length
-same-length c = search needs
 
 returns : tie.Need-returns
 unfolding choiceLines
@@ -43,11 +31,5 @@ returns c =
 
 pub put-choice-spec : {M : Type 1} → statement M
 put-choice-spec =
-    tie.close
-    (tie.spec
-    slice-aggregate-put-number-line
-    wide-requires
-    put-number-line-requires
-    put-gains-line-requires
-    same-length
-    returns)
+    tie.close (tie.spec (λ c. search needs) (λ c κs. search needs) (λ c κs. search needs) put-gains-line-requires
+    (λ c. search needs) returns)

@@ -10,18 +10,6 @@ use Rattle.plantext.proofs.Printing.{put-done, put-part, put-line, leng
 use Rattle.plantext.proofs.put_field_line.Statement.{statement}
 use Rattle.plantext.proofs.put_field_line.Tie as tie
 
-slice-aggregate-put-name : tie.Need-slice-aggregate-put-name
-slice-aggregate-put-name c = search needs
-
-put-name-requires : tie.Need-put-name-requires
-put-name-requires c κs = search needs
-
-put-hexes-requires : tie.Need-put-hexes-requires
-put-hexes-requires c κs = search needs
-
-slice-aggregate-put-text : tie.Need-slice-aggregate-put-text
-slice-aggregate-put-text c = search needs
-
 put-text-requires : tie.Need-put-text-requires
 put-text-requires c κs =
     let w = c .before .before .before .before in
@@ -29,9 +17,6 @@ put-text-requires c κs =
     let a = n .before .before .before .before .before .args in
     let h = le-of-eq (length-hexes (now (a .field))) in
     omega arith
-
-same-length : tie.Need-same-length
-same-length c = search needs
 
 returns : tie.Need-returns
 returns c =
@@ -47,12 +32,5 @@ returns c =
 
 pub put-field-line-spec : {M : Type 1} → statement M
 put-field-line-spec =
-    tie.close
-    (tie.spec
-    slice-aggregate-put-name
-    put-name-requires
-    put-hexes-requires
-    slice-aggregate-put-text
-    put-text-requires
-    same-length
-    returns)
+    tie.close (tie.spec (λ c. search needs) (λ c κs. search needs) (λ c κs. search needs) (λ c. search needs)
+    put-text-requires (λ c. search needs) returns)

@@ -23,47 +23,17 @@ loop-holds c =
     let a = c .before .before .args in
     (omega arith, refl, omega arith, hexes-none (now (a .out)) (now (a .bytes)) (a .at) (omega arith))
 
-slice-write-out : tie.Need-slice-write-out Inv-loop μ-loop
-slice-write-out c = search needs
-
-shared-slice-read-hex : tie.Need-shared-slice-read-hex Inv-loop μ-loop
-shared-slice-read-hex c = search needs
-
-hex-requires : tie.Need-hex-requires Inv-loop μ-loop
-hex-requires c κs = omega (arith, c .shared-slice-known2 .given (c .before .before .loop .i))
-
-add-out : tie.Need-add-out Inv-loop μ-loop
-add-out c = search needs
-
 slice-write-out-2 : tie.Need-slice-write-out-2 Inv-loop μ-loop
 slice-write-out-2 c =
     let l = c .before .before .before in
     let e : length (l .loop .out) ≡ length (now (l .before .before .before .args .out)) = l .loop .inv .1 in
     simp length-set (omega arith)
 
-shared-slice-read-hex-2 : tie.Need-shared-slice-read-hex-2 Inv-loop μ-loop
-shared-slice-read-hex-2 c = search needs
-
-hex-requires-2 : tie.Need-hex-requires-2 Inv-loop μ-loop
-hex-requires-2 c κs = search needs
-
-add-out-2 : tie.Need-add-out-2 Inv-loop μ-loop
-add-out-2 c = search needs
-
 slice-write-out-3 : tie.Need-slice-write-out-3 Inv-loop μ-loop
 slice-write-out-3 c =
     let l = c .before .before .before .before .before in
     let e : length (l .loop .out) ≡ length (now (l .before .before .before .args .out)) = l .loop .inv .1 in
     simp length-set (omega arith)
-
-add-p : tie.Need-add-p Inv-loop μ-loop
-add-p c = search needs
-
-add-i : tie.Need-add-i Inv-loop μ-loop
-add-i c = search needs
-
-loop-less : tie.Need-loop-less Inv-loop μ-loop
-loop-less c = search needs
 
 loop-again : tie.Need-loop-again Inv-loop μ-loop
 loop-again c =
@@ -77,9 +47,6 @@ loop-again c =
       hexes-turn (now (a .bytes)) (l .loop .i) _ _ (omega arith) (omega arith) (l .loop .inv .3) (h .hex .ensures) (c .hex2 .ensures),
     )
 
-same-length : tie.Need-same-length Inv-loop μ-loop
-same-length c = search needs
-
 returns : tie.Need-returns Inv-loop μ-loop
 returns c =
     let l = c .before in
@@ -88,23 +55,7 @@ returns c =
 
 pub put-hexes-spec : {M : Type 1} → statement M
 put-hexes-spec =
-    tie.close
-    (tie.spec
-    Inv-loop
-    μ-loop
-    loop-holds
-    slice-write-out
-    shared-slice-read-hex
-    hex-requires
-    add-out
-    slice-write-out-2
-    shared-slice-read-hex-2
-    hex-requires-2
-    add-out-2
-    slice-write-out-3
-    add-p
-    add-i
-    loop-less
-    loop-again
-    same-length
-    returns)
+    tie.close (tie.spec Inv-loop μ-loop loop-holds (λ c. search needs) (λ c. search needs)
+    (λ c κs. omega (arith, c .shared-slice-known2 .given (c .before .before .loop .i))) (λ c. search needs)
+    slice-write-out-2 (λ c. search needs) (λ c κs. search needs) (λ c. search needs) slice-write-out-3
+    (λ c. search needs) (λ c. search needs) (λ c. search needs) loop-again (λ c. search needs) returns)

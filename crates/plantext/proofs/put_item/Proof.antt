@@ -8,18 +8,6 @@ use Rattle.plantext.proofs.Printing.{put-done, put-part, put-byte, put-
 use Rattle.plantext.proofs.put_item.Statement.{statement}
 use Rattle.plantext.proofs.put_item.Tie as tie
 
-slice-write-out : tie.Need-slice-write-out
-slice-write-out c = search needs
-
-add-put-number : tie.Need-add-put-number
-add-put-number c = search needs
-
-put-number-requires : tie.Need-put-number-requires
-put-number-requires c κs = simp length-set (omega arith)
-
-same-length : tie.Need-same-length
-same-length c = c .before .before .put-number .kept .0 ∙ simp length-set
-
 returns : tie.Need-returns
 returns c =
     let w = c .before .before in
@@ -30,4 +18,5 @@ returns c =
 
 pub put-item-spec : {M : Type 1} → statement M
 put-item-spec =
-    tie.close (tie.spec slice-write-out add-put-number put-number-requires same-length returns)
+    tie.close (tie.spec (λ c. search needs) (λ c. search needs) (λ c κs. simp length-set (omega arith))
+    (λ c. c .before .before .put-number .kept .0 ∙ simp length-set) returns)

@@ -8,18 +8,6 @@ use Rattle.plantext.proofs.Printing.{put-done, put-part, put-byte, put-
 use Rattle.plantext.proofs.put_name.Statement.{statement}
 use Rattle.plantext.proofs.put_name.Tie as tie
 
-slice-write-out : tie.Need-slice-write-out
-slice-write-out c = search needs
-
-add-put-text : tie.Need-add-put-text
-add-put-text c = search needs
-
-put-text-requires : tie.Need-put-text-requires
-put-text-requires c κs = simp length-set (omega arith)
-
-same-length : tie.Need-same-length
-same-length c = c .before .before .put-text .kept .0 ∙ simp length-set
-
 returns : tie.Need-returns
 returns c =
     let w = c .before .before in
@@ -30,4 +18,5 @@ returns c =
 
 pub put-name-spec : {M : Type 1} → statement M
 put-name-spec =
-    tie.close (tie.spec slice-write-out add-put-text put-text-requires same-length returns)
+    tie.close (tie.spec (λ c. search needs) (λ c. search needs) (λ c κs. simp length-set (omega arith))
+    (λ c. c .before .before .put-text .kept .0 ∙ simp length-set) returns)

@@ -10,15 +10,6 @@ use Rattle.plantext.proofs.Printing.{put-done, put-part, put-line, spac
 use Rattle.plantext.proofs.put_number_line.Statement.{statement}
 use Rattle.plantext.proofs.put_number_line.Tie as tie
 
-put-name-requires : tie.Need-put-name-requires
-put-name-requires c κs = search needs
-
-put-item-requires : tie.Need-put-item-requires
-put-item-requires c κs = search needs
-
-slice-aggregate-put-text : tie.Need-slice-aggregate-put-text
-slice-aggregate-put-text c = search needs
-
 put-text-requires : tie.Need-put-text-requires
 put-text-requires c κs =
     let w = c .before .before .before .before in
@@ -26,9 +17,6 @@ put-text-requires c κs =
     let a = n .before .before .before .before .args in
     let h = spaced-fits (a .n ∷ []) in
     omega arith
-
-same-length : tie.Need-same-length
-same-length c = search needs
 
 returns : tie.Need-returns
 returns c =
@@ -44,11 +32,5 @@ returns c =
 
 pub put-number-line-spec : {M : Type 1} → statement M
 put-number-line-spec =
-    tie.close
-    (tie.spec
-    put-name-requires
-    put-item-requires
-    slice-aggregate-put-text
-    put-text-requires
-    same-length
-    returns)
+    tie.close (tie.spec (λ c κs. search needs) (λ c κs. search needs) (λ c. search needs) put-text-requires
+    (λ c. search needs) returns)

@@ -6,23 +6,11 @@ use Rattle.plantext.proofs.Printing.{put-done, put-part, put-both, numb
 use Rattle.plantext.proofs.put_sizes.Statement.{statement}
 use Rattle.plantext.proofs.put_sizes.Tie as tie
 
-slice-aggregate-put-number-line : tie.Need-slice-aggregate-put-number-line
-slice-aggregate-put-number-line c = search needs
-
-put-number-line-requires : tie.Need-put-number-line-requires
-put-number-line-requires c κs = search needs
-
-slice-aggregate-put-number-line-2 : tie.Need-slice-aggregate-put-number-line-2
-slice-aggregate-put-number-line-2 c = search needs
-
 put-number-line-requires-2 : tie.Need-put-number-line-requires-2
 put-number-line-requires-2 c κs =
     let a = c .before .before .before .before .before .before .before .before .args in
     let h = number-line-fits payloadName (a .payload) in
     omega arith
-
-same-length : tie.Need-same-length
-same-length c = search needs
 
 returns : tie.Need-returns
 unfolding sizeLines
@@ -37,11 +25,5 @@ returns c =
 
 pub put-sizes-spec : {M : Type 1} → statement M
 put-sizes-spec =
-    tie.close
-    (tie.spec
-    slice-aggregate-put-number-line
-    put-number-line-requires
-    slice-aggregate-put-number-line-2
-    put-number-line-requires-2
-    same-length
-    returns)
+    tie.close (tie.spec (λ c. search needs) (λ c κs. search needs) (λ c. search needs) put-number-line-requires-2
+    (λ c. search needs) returns)

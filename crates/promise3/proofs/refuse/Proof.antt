@@ -4,11 +4,8 @@ use Rattle.promise3.proofs.Cases.{refused-zeros}
 use Rattle.promise3.proofs.refuse.Statement.{statement}
 use Rattle.promise3.proofs.refuse.Tie as tie
 
-no-gains-requires : tie.Need-no-gains-requires
-no-gains-requires c κs = search needs
-
 returns : tie.Need-returns
 returns c = refused-zeros (c .before .args .n) (c .before .pre) (c .no-gains .result) (c .no-gains .ensures)
 
 pub refuse-spec : {M : Type 1} → statement M
-refuse-spec = tie.close (tie.spec no-gains-requires returns)
+refuse-spec = tie.close (tie.spec (λ c κs. search needs) returns)

@@ -6,15 +6,6 @@ use Rattle.quantiser.proofs.Ints.{allowed-range}
 use Rattle.quantiser.proofs.quantise_bin.Statement.{statement}
 use Rattle.quantiser.proofs.quantise_bin.Tie as tie
 
-allows-requires : tie.Need-allows-requires
-allows-requires c κs = search needs
-
-any-too-large-requires : tie.Need-any-too-large-requires
-any-too-large-requires c κs = search needs
-
-refuse-requires : tie.Need-refuse-requires
-refuse-requires c κs = search needs
-
 returns : tie.Need-returns
 unfolding quantisedBin
 returns c =
@@ -34,9 +25,6 @@ returns-2 c =
     let a = d .before .allows in
     c .bin .ensures ∙ rw (sym (a .ensures) ∙ d .if1 .taken, sym (c .before .before .before .any-too-large .ensures) ∙ c .before .before .if2 .left)
 
-refuse-requires-2 : tie.Need-refuse-requires-2
-refuse-requires-2 c κs = search needs
-
 returns-3 : tie.Need-returns-3
 unfolding quantisedBin
 returns-3 c = c .refuse2 .ensures ∙ rw (sym (c .before .before .allows .ensures) ∙ c .before .if1 .left)
@@ -44,12 +32,5 @@ returns-3 c = c .refuse2 .ensures ∙ rw (sym (c .before .before .allows .ensure
 pub quantise-bin-spec : {M : Type 1} → statement M
 quantise-bin-spec =
     tie.close
-    (tie.spec
-    allows-requires
-    any-too-large-requires
-    refuse-requires
-    returns
-    bin-requires
-    returns-2
-    refuse-requires-2
-    returns-3)
+    (tie.spec (λ c κs. search needs) (λ c κs. search needs) (λ c κs. search needs) returns bin-requires returns-2
+    (λ c κs. search needs) returns-3)

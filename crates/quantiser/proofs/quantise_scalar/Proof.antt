@@ -5,15 +5,10 @@ use borrow.Author.Needs.{needs}
 use borrow.Author.Tests.{not-true, not-false}
 use Rattle.levels.specs.Component.{tooLarge}
 use Rattle.quantiser.specs.Quantise.{quantised}
+use Rattle.quantiser.proofs.Fixed.{steps-is, steps-names}
 use Rattle.quantiser.proofs.Ints.{allowed-range}
 use Rattle.quantiser.proofs.quantise_scalar.Statement.{statement}
 use Rattle.quantiser.proofs.quantise_scalar.Tie as tie
-
-allows-requires : tie.Need-allows-requires
-allows-requires c κs = search needs
-
-in-range-requires : tie.Need-in-range-requires
-in-range-requires c κs = search needs
 
 hebap-range : (c : tie.Then2) → let d = c .before .before .before in (8 ≤ d .before .args .hebap) × (d .before .args .hebap ≤ 19)
 hebap-range c =
@@ -24,7 +19,11 @@ steps-of-requires : tie.Need-steps-of-requires
 steps-of-requires c κs = hebap-range c
 
 pick-requires : tie.Need-pick-requires
-pick-requires c κs = (hebap-range (c .before), c .steps-of .ensures)
+pick-requires c κs =
+    let i = c .before in
+    let a = i .before .before .before .before .args in
+    let r = hebap-range i in
+    steps-is (a .hebap) (a .gk) _ (c .steps-of .ensures) (r .0) (r .1)
 
 returns : tie.Need-returns
 unfolding quantised
@@ -32,7 +31,9 @@ returns c =
     let i = c .before .before in
     let d = i .before .before .before in
     let r = i .before .in-range in
-    rw (c .pick .ensures, sym (d .allows .ensures) ∙ i .before .before .if1 .taken, not-true (tooLarge (d .before .args .x)) (sym (r .ensures) ∙ i .if2 .taken))
+    let n = steps-names (d .before .args .hebap) (d .before .args .gk) _ (c .before .steps-of .ensures) in
+    let e = rw (n .0, n .1) at (c .pick .ensures) in
+    rw (e, sym (d .allows .ensures) ∙ i .before .before .if1 .taken, not-true (tooLarge (d .before .args .x)) (sym (r .ensures) ∙ i .if2 .taken))
 
 returns-2 : tie.Need-returns-2
 unfolding quantised
@@ -48,11 +49,5 @@ returns-3 c = rw (sym (c .before .allows .ensures) ∙ c .if1 .left)
 pub quantise-scalar-spec : {M : Type 1} → statement M
 quantise-scalar-spec =
     tie.close
-    (tie.spec
-    allows-requires
-    in-range-requires
-    steps-of-requires
-    pick-requires
-    returns
-    returns-2
+    (tie.spec (λ c κs. search needs) (λ c κs. search needs) steps-of-requires pick-requires returns returns-2
     returns-3)

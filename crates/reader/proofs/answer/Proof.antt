@@ -1,18 +1,9 @@
 -- `reader::answer` meets its contract. Assumes nothing.
-use mathlib.Core.Path.{sym, ap, subst, _∙_}
+use mathlib.Core.Path.{subst}
 use borrow.Author.Needs.{needs}
-use Rattle.reader.specs.Reading.{Near, answerWith}
+use Rattle.reader.specs.Work.{Near}
 use Rattle.reader.proofs.answer.Statement.{statement}
 use Rattle.reader.proofs.answer.Tie as tie
-
-enum-known-r : tie.Need-enum-known-r
-enum-known-r c = search needs
-
-no-gains-requires : tie.Need-no-gains-requires
-no-gains-requires c κs = search needs
-
-enum-known-r-2 : tie.Need-enum-known-r-2
-enum-known-r-2 c = search needs
 
 bits-between-requires : tie.Need-bits-between-requires
 bits-between-requires c κs = let s = c .before .before .before in subst (Near (s .args .pos)) (c .before .r2 .given .1) (s .pre)
@@ -26,10 +17,4 @@ returns-2 c = rw (c .before .before .r2 .given .1, c .bits-between .ensures)
 pub answer-spec : {M : Type 1} → statement M
 answer-spec =
     tie.close
-    (tie.spec
-    enum-known-r
-    no-gains-requires
-    enum-known-r-2
-    bits-between-requires
-    returns
-    returns-2)
+    (tie.spec (λ c. search needs) (λ c κs. search needs) (λ c. search needs) bits-between-requires returns returns-2)

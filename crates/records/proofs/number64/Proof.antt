@@ -4,21 +4,6 @@ use Rattle.records.specs.Records.{at64}
 use Rattle.records.proofs.number64.Statement.{statement}
 use Rattle.records.proofs.number64.Tie as tie
 
-number32-requires : tie.Need-number32-requires
-number32-requires c κs = search needs
-
-add-number32 : tie.Need-add-number32
-add-number32 c = search needs
-
-number32-requires-2 : tie.Need-number32-requires-2
-number32-requires-2 c κs = search needs
-
-mul-result : tie.Need-mul-result
-mul-result c = search needs
-
-add-result : tie.Need-add-result
-add-result c = search needs
-
 returns : tie.Need-returns
 unfolding at64
 returns c = search needs
@@ -26,4 +11,5 @@ returns c = search needs
 pub number64-spec : {M : Type 1} → statement M
 number64-spec =
     tie.close
-    (tie.spec number32-requires add-number32 number32-requires-2 mul-result add-result returns)
+    (tie.spec (λ c κs. search needs) (λ c. search needs) (λ c κs. search needs) (λ c. search needs)
+    (λ c. search needs) returns)

@@ -44,14 +44,8 @@ returns c = not-this _ _ _ (c .if1 .taken)
 float-to-bits-result : tie.Need-float-to-bits-result
 float-to-bits-result c = is-number (c .before .args .y) (c .if1 .left)
 
-number32-requires : tie.Need-number32-requires
-number32-requires c κs = search needs
-
-cast-result : tie.Need-cast-result
-cast-result c = search needs
-
 returns-2 : tie.Need-returns-2
 returns-2 c = this _ _ _ (c .before .if1 .left) (c .number32 .ensures .0)
 
 pub same-float-spec : {M : Type 1} → statement M
-same-float-spec = tie.close (tie.spec returns float-to-bits-result number32-requires cast-result returns-2)
+same-float-spec = tie.close (tie.spec returns float-to-bits-result (λ c κs. search needs) (λ c. search needs) returns-2)

@@ -15,33 +15,6 @@ same-parts x y e f h = (
   (λ q. h .1 (ap (λ (k : ℕ). take k x) e ∙ q ∙ ap (λ (k : ℕ). take k y) (sym f))),
 )
 
-add-end : tie.Need-add-end
-add-end c = search needs
-
-add-end-after : tie.Need-add-end-after
-add-end-after c = search needs
-
-sub-same : tie.Need-sub-same
-sub-same c = search needs
-
-part-same-start : tie.Need-part-same-start
-part-same-start c = search needs
-
-part-same-end : tie.Need-part-same-end
-part-same-end c = search needs
-
-sub-same-2 : tie.Need-sub-same-2
-sub-same-2 c = search needs
-
-part-same-start-2 : tie.Need-part-same-start-2
-part-same-start-2 c = search needs
-
-part-same-end-2 : tie.Need-part-same-end-2
-part-same-end-2 c = search needs
-
-same-requires : tie.Need-same-requires
-same-requires c κs = search needs
-
 returns : tie.Need-returns
 returns c =
     let a = c .before .before .before .before .before .args in
@@ -50,14 +23,5 @@ returns c =
 pub same-out-spec : {M : Type 1} → statement M
 same-out-spec =
     tie.close
-    (tie.spec
-    add-end
-    add-end-after
-    sub-same
-    part-same-start
-    part-same-end
-    sub-same-2
-    part-same-start-2
-    part-same-end-2
-    same-requires
-    returns)
+    (tie.spec (λ c. search needs) (λ c. search needs) (λ c. search needs) (λ c. search needs) (λ c. search needs)
+    (λ c. search needs) (λ c. search needs) (λ c. search needs) (λ c κs. search needs) returns)

@@ -5,21 +5,6 @@ use Rattle.records.proofs.Laws.{goes-on, stops}
 use Rattle.records.proofs.same_written.Statement.{statement}
 use Rattle.records.proofs.same_written.Tie as tie
 
-enum-known-answer : tie.Need-enum-known-answer
-enum-known-answer c = search needs
-
-same-value-requires : tie.Need-same-value-requires
-same-value-requires c κs = search needs
-
-same-place-requires : tie.Need-same-place-requires
-same-place-requires c κs = search needs
-
-enum-known-answer-2 : tie.Need-enum-known-answer-2
-enum-known-answer-2 c = search needs
-
-same-value-requires-2 : tie.Need-same-value-requires-2
-same-value-requires-2 c κs = search needs
-
 returns : tie.Need-returns
 returns c = rw (c .before .before .before .before .answer .given .1) (goes-on _ (sym (c .before .before .same-value .ensures) ∙ c .before .if1 .taken) (c .same-place .ensures))
 
@@ -32,12 +17,5 @@ returns-3 c = rw (c .before .before .answer2 .given .1) (c .same-value2 .ensures
 pub same-written-spec : {M : Type 1} → statement M
 same-written-spec =
     tie.close
-    (tie.spec
-    enum-known-answer
-    same-value-requires
-    same-place-requires
-    enum-known-answer-2
-    same-value-requires-2
-    returns
-    returns-2
-    returns-3)
+    (tie.spec (λ c. search needs) (λ c κs. search needs) (λ c κs. search needs) (λ c. search needs)
+    (λ c κs. search needs) returns returns-2 returns-3)

@@ -5,20 +5,9 @@ use Rattle.records.proofs.Laws.{same-bits}
 use Rattle.records.proofs.signed32.Statement.{statement}
 use Rattle.records.proofs.signed32.Tie as tie
 
-cast-result : tie.Need-cast-result
-cast-result c = search needs
-
-sub-result : tie.Need-sub-result
-sub-result c = search needs
-
-cast-result-2 : tie.Need-cast-result-2
-cast-result-2 c = search needs
-
-returns : tie.Need-returns
-returns c = search needs
-
 returns-2 : tie.Need-returns-2
 returns-2 c = same-bits 2147483648 4294967296 4294967295 (c .before .args .v) (omega arith)
 
 pub signed32-spec : {M : Type 1} → statement M
-signed32-spec = tie.close (tie.spec cast-result sub-result cast-result-2 returns returns-2)
+signed32-spec =
+    tie.close (tie.spec (λ c. search needs) (λ c. search needs) (λ c. search needs) (λ c. search needs) returns-2)

@@ -40,4 +40,7 @@ returns : tie.Need-returns Inv-loop μ-loop
 returns c = tt
 
 pub main-spec : {M : Type 1} → statement M
-main-spec = tie.close (tie.spec Inv-loop μ-loop new-count-requires loop-holds next-requires right-requires counted-requires sub-turns loop-less loop-again print-requires returns)
+main-spec =
+    tie.close
+    (tie.spec Inv-loop μ-loop new-count-requires loop-holds next-requires right-requires counted-requires sub-turns
+    loop-less loop-again print-requires returns)

@@ -13,23 +13,8 @@ abbrev μ-loop : tie.MeasureT-loop
 loop-holds : tie.Need-loop-holds Inv-loop μ-loop
 loop-holds c = tt
 
-add-signed8 : tie.Need-add-signed8 Inv-loop μ-loop
-add-signed8 c = search needs
-
-element-copy-out-signed8 : tie.Need-element-copy-out-signed8 Inv-loop μ-loop
-element-copy-out-signed8 c = search needs
-
 signed8-requires : tie.Need-signed8-requires Inv-loop μ-loop
 signed8-requires c κs = tt
-
-array-set-from-marks : tie.Need-array-set-from-marks Inv-loop μ-loop
-array-set-from-marks c = search needs
-
-add-i : tie.Need-add-i Inv-loop μ-loop
-add-i c = search needs
-
-loop-less : tie.Need-loop-less Inv-loop μ-loop
-loop-less c = search needs
 
 loop-again : tie.Need-loop-again Inv-loop μ-loop
 loop-again c = tt
@@ -38,4 +23,7 @@ returns : tie.Need-returns Inv-loop μ-loop
 returns c = tt
 
 pub marks-of-spec : {M : Type 1} → statement M
-marks-of-spec = tie.close (tie.spec Inv-loop μ-loop loop-holds add-signed8 element-copy-out-signed8 signed8-requires array-set-from-marks add-i loop-less loop-again returns)
+marks-of-spec =
+    tie.close
+    (tie.spec Inv-loop μ-loop loop-holds (λ c. search needs) (λ c. search needs) signed8-requires (λ c. search needs)
+    (λ c. search needs) (λ c. search needs) loop-again returns)

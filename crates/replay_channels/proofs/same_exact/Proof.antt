@@ -13,32 +13,8 @@ abbrev μ-loop : tie.MeasureT-loop
 loop-holds : tie.Need-loop-holds Inv-loop μ-loop
 loop-holds c = tt
 
-mul-if1 : tie.Need-mul-if1 Inv-loop μ-loop
-mul-if1 c = search needs
-
-element-copy-out-if1 : tie.Need-element-copy-out-if1 Inv-loop μ-loop
-element-copy-out-if1 c = search needs
-
-mul-number32 : tie.Need-mul-number32 Inv-loop μ-loop
-mul-number32 c = search needs
-
-add-number32 : tie.Need-add-number32 Inv-loop μ-loop
-add-number32 c = search needs
-
-number32-requires : tie.Need-number32-requires Inv-loop μ-loop
-number32-requires c κs = search needs
-
-signed32-requires : tie.Need-signed32-requires Inv-loop μ-loop
-signed32-requires c κs = search needs
-
 returns : tie.Need-returns Inv-loop μ-loop
 returns c = tt
-
-add-i : tie.Need-add-i Inv-loop μ-loop
-add-i c = search needs
-
-loop-less : tie.Need-loop-less Inv-loop μ-loop
-loop-less c = search needs
 
 loop-again : tie.Need-loop-again Inv-loop μ-loop
 loop-again c = tt
@@ -47,4 +23,8 @@ returns-2 : tie.Need-returns-2 Inv-loop μ-loop
 returns-2 c = tt
 
 pub same-exact-spec : {M : Type 1} → statement M
-same-exact-spec = tie.close (tie.spec Inv-loop μ-loop loop-holds mul-if1 element-copy-out-if1 mul-number32 add-number32 number32-requires signed32-requires returns add-i loop-less loop-again returns-2)
+same-exact-spec =
+    tie.close
+    (tie.spec Inv-loop μ-loop loop-holds (λ c. search needs) (λ c. search needs) (λ c. search needs)
+    (λ c. search needs) (λ c κs. search needs) (λ c κs. search needs) returns (λ c. search needs) (λ c. search needs)
+    loop-again returns-2)

@@ -13,29 +13,8 @@ abbrev μ-loop : tie.MeasureT-loop
 loop-holds : tie.Need-loop-holds Inv-loop μ-loop
 loop-holds c = tt
 
-mul-same-float : tie.Need-mul-same-float Inv-loop μ-loop
-mul-same-float c = search needs
-
-add-same-float : tie.Need-add-same-float Inv-loop μ-loop
-add-same-float c = search needs
-
-mul-same-float-2 : tie.Need-mul-same-float-2 Inv-loop μ-loop
-mul-same-float-2 c = search needs
-
-element-copy-out-same-float : tie.Need-element-copy-out-same-float Inv-loop μ-loop
-element-copy-out-same-float c = search needs
-
-same-float-requires : tie.Need-same-float-requires Inv-loop μ-loop
-same-float-requires c κs = search needs
-
 returns : tie.Need-returns Inv-loop μ-loop
 returns c = tt
-
-add-i : tie.Need-add-i Inv-loop μ-loop
-add-i c = search needs
-
-loop-less : tie.Need-loop-less Inv-loop μ-loop
-loop-less c = search needs
 
 loop-again : tie.Need-loop-again Inv-loop μ-loop
 loop-again c = tt
@@ -44,4 +23,7 @@ returns-2 : tie.Need-returns-2 Inv-loop μ-loop
 returns-2 c = tt
 
 pub same-values-spec : {M : Type 1} → statement M
-same-values-spec = tie.close (tie.spec Inv-loop μ-loop loop-holds mul-same-float add-same-float mul-same-float-2 element-copy-out-same-float same-float-requires returns add-i loop-less loop-again returns-2)
+same-values-spec =
+    tie.close
+    (tie.spec Inv-loop μ-loop loop-holds (λ c. search needs) (λ c. search needs) (λ c. search needs)
+    (λ c. search needs) (λ c κs. search needs) returns (λ c. search needs) (λ c. search needs) loop-again returns-2)

@@ -13,27 +13,6 @@ abbrev μ-loop : tie.MeasureT-loop
 loop-holds : tie.Need-loop-holds Inv-loop μ-loop
 loop-holds c = tt
 
-mul-number : tie.Need-mul-number Inv-loop μ-loop
-mul-number c = search needs
-
-add-number : tie.Need-add-number Inv-loop μ-loop
-add-number c = search needs
-
-number-requires : tie.Need-number-requires Inv-loop μ-loop
-number-requires c κs = search needs
-
-mul-x : tie.Need-mul-x Inv-loop μ-loop
-mul-x c = search needs
-
-array-write-x : tie.Need-array-write-x Inv-loop μ-loop
-array-write-x c = search needs
-
-add-j : tie.Need-add-j Inv-loop μ-loop
-add-j c = search needs
-
-loop-less : tie.Need-loop-less Inv-loop μ-loop
-loop-less c = search needs
-
 loop-again : tie.Need-loop-again Inv-loop μ-loop
 loop-again c = tt
 
@@ -41,4 +20,7 @@ returns : tie.Need-returns Inv-loop μ-loop
 returns c = tt
 
 pub vectors-spec : {M : Type 1} → statement M
-vectors-spec = tie.close (tie.spec Inv-loop μ-loop loop-holds mul-number add-number number-requires mul-x array-write-x add-j loop-less loop-again returns)
+vectors-spec =
+    tie.close
+    (tie.spec Inv-loop μ-loop loop-holds (λ c. search needs) (λ c. search needs) (λ c κs. search needs)
+    (λ c. search needs) (λ c. search needs) (λ c. search needs) (λ c. search needs) loop-again returns)

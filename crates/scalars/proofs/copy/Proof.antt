@@ -18,27 +18,6 @@ Inv-loop from out₀ j₀ out j = (j ≤ length out₀) × (length out ≡ lengt
 abbrev μ-loop : tie.MeasureT-loop
 μ-loop from out₀ j₀ out j = length out₀ - j
 
-loop-holds : tie.Need-loop-holds Inv-loop μ-loop
-loop-holds c = (omega arith, refl, refl)
-
-mul-out : tie.Need-mul-out Inv-loop μ-loop
-mul-out c = search needs
-
-shared-slice-read-out : tie.Need-shared-slice-read-out Inv-loop μ-loop
-shared-slice-read-out c = search needs
-
-mul-out-2 : tie.Need-mul-out-2 Inv-loop μ-loop
-mul-out-2 c = search needs
-
-slice-write-out : tie.Need-slice-write-out Inv-loop μ-loop
-slice-write-out c = search needs
-
-add-j : tie.Need-add-j Inv-loop μ-loop
-add-j c = search needs
-
-loop-less : tie.Need-loop-less Inv-loop μ-loop
-loop-less c = search needs
-
 loop-again : tie.Need-loop-again Inv-loop μ-loop
 loop-again c =
     let l = c .before .before in
@@ -47,9 +26,6 @@ loop-again c =
       rw length-set (l .loop .inv .1),
       rw (l .loop .inv .2) (copy-turn (now (a .from)) (now (a .out)) (l .loop .j) nan (omega arith) (omega arith)),
     )
-
-same-length : tie.Need-same-length Inv-loop μ-loop
-same-length c = search needs
 
 returns : tie.Need-returns Inv-loop μ-loop
 returns c =
@@ -60,16 +36,6 @@ returns c =
 pub copy-spec : {M : Type 1} → statement M
 copy-spec =
     tie.close
-    (tie.spec
-    Inv-loop
-    μ-loop
-    loop-holds
-    mul-out
-    shared-slice-read-out
-    mul-out-2
-    slice-write-out
-    add-j
-    loop-less
-    loop-again
-    same-length
+    (tie.spec Inv-loop μ-loop (λ c. (omega arith, refl, refl)) (λ c. search needs) (λ c. search needs)
+    (λ c. search needs) (λ c. search needs) (λ c. search needs) (λ c. search needs) loop-again (λ c. search needs)
     returns)

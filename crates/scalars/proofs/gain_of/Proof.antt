@@ -5,9 +5,6 @@ use borrow.Author.Needs.{needs}
 use Rattle.scalars.proofs.gain_of.Statement.{statement}
 use Rattle.scalars.proofs.gain_of.Tie as tie
 
-gain-value-requires : tie.Need-gain-value-requires
-gain-value-requires c κs = search needs
-
 returns : tie.Need-returns
 returns c = let s = c .before .before in c .gain-value .ensures ∙ gain-there (s .args .gaqbin) _ _ (s .fits .gaqbin) (c .before .if1 .taken)
 
@@ -15,4 +12,4 @@ returns-2 : tie.Need-returns-2
 returns-2 c = gain-none (c .before .args .gaqbin) _ _ (c .before .fits .gaqbin) (c .if1 .left)
 
 pub gain-of-spec : {M : Type 1} → statement M
-gain-of-spec = tie.close (tie.spec gain-value-requires returns returns-2)
+gain-of-spec = tie.close (tie.spec (λ c κs. search needs) returns returns-2)

@@ -4,7 +4,7 @@ use denote.Ref.{now}
 use lib.ListN.{length, drop}
 use Rattle.bits.specs.Bits.{bitsOf, bitAt}
 use Rattle.bits.proofs.Reading.{pos-is}
-use Rattle.scalars.specs.declared.ScalarResult.{ScalarResult}
+use Rattle.bits.specs.declared.BitMove.{BitMove}
 use Rattle.scalars.proofs.Laws.{bin-none, bin-values}
 use borrow.Author.Needs.{needs}
 use Rattle.scalars.proofs.read_bin.Statement.{statement}
@@ -13,31 +13,16 @@ use Rattle.scalars.proofs.read_bin.Tie as tie
 copy-requires : tie.Need-copy-requires
 copy-requires c κs = let s = c .before .before .before .before .before .before in rw (s .pre .1 .1 .1) (sym (s .pre .1 .1 .0))
 
-same-length : tie.Need-same-length
-same-length c = search needs
-
-same-length-2 : tie.Need-same-length-2
-same-length-2 c = search needs
-
 returns : tie.Need-returns
 returns c =
     let i = c .before .before .before .before .before in
     let s = i .before .before .before .before in
     let a = s .args in
     let e = bin-none (a .hebap) (a .gk) (drop (bitAt (a .pos)) (bitsOf (now (a .src)))) (i .if1 .taken) in
-    rw e (ap ScalarResult.Done (sym (pos-is (now (a .src)) (a .pos) (s .pre .1 .0))), c .before .before .copy .ensures ∙ s .pre .1 .1 .1)
+    rw e (ap BitMove.Done (sym (pos-is (now (a .src)) (a .pos) (s .pre .1 .0))), c .before .before .copy .ensures ∙ s .pre .1 .1 .1)
 
 read-values-requires : tie.Need-read-values-requires
 read-values-requires c κs = let s = c .before .before .before .before .before .before .before in (search needs, (s .pre .1 .0, (s .pre .1 .1 .0, ap length (s .pre .1 .1 .1), s .pre .1 .1 .2)))
-
-same-length-3 : tie.Need-same-length-3
-same-length-3 c = search needs
-
-same-length-4 : tie.Need-same-length-4
-same-length-4 c = search needs
-
-same-length-5 : tie.Need-same-length-5
-same-length-5 c = search needs
 
 returns-2 : tie.Need-returns-2
 returns-2 c =
@@ -50,13 +35,5 @@ returns-2 c =
 pub read-bin-spec : {M : Type 1} → statement M
 read-bin-spec =
     tie.close
-    (tie.spec
-    copy-requires
-    same-length
-    same-length-2
-    returns
-    read-values-requires
-    same-length-3
-    same-length-4
-    same-length-5
-    returns-2)
+    (tie.spec copy-requires (λ c. search needs) (λ c. search needs) returns read-values-requires (λ c. search needs)
+    (λ c. search needs) (λ c. search needs) returns-2)

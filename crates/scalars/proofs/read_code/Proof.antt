@@ -18,25 +18,19 @@ use borrow.Author.Needs.{needs}
 use Rattle.scalars.proofs.read_code.Statement.{statement}
 use Rattle.scalars.proofs.read_code.Tie as tie
 
-mant-requires : tie.Need-mant-requires
-mant-requires c κs = search needs
-
 -- m is 3 to 16
 wide : (c : tie.After-mant) → (3 ≤ c .mant .result) × (c .mant .result ≤ 16)
 wide c = let a = c .before .before .args in rw (c .mant .ensures) (mant-bits (a .hebap) (omega arith) (omega arith))
 
-cast-holds : tie.Need-cast-holds
-cast-holds c = let w = wide (c .before) in search needs
-
-holds-requires : tie.Need-holds-requires
-holds-requires c κs = search needs
+cast-has-bits : tie.Need-cast-has-bits
+cast-has-bits c = let w = wide (c .before) in search needs
 
 -- the number is there
 fits : (c : tie.Else2) → let k = c .before .before .before in let a = k .before .before .args in bitAt (a .pos) + k .mant .result ≤ 8 * length (now (a .src))
 fits c =
     let k = c .before .before .before in
     let a = k .before .before .args in
-    let h : bitAt (a .pos) + 1 * k .mant .result ≤ 8 * length (now (a .src)) = leb-true _ _ (sym (c .before .holds .ensures) ∙ not-false _ (c .if2 .left)) in
+    let h : bitAt (a .pos) + 1 * k .mant .result ≤ 8 * length (now (a .src)) = leb-true _ _ (sym (c .before .has-bits .ensures) ∙ not-false _ (c .if2 .left)) in
     omega arith
 
 returns : tie.Need-returns
@@ -44,20 +38,20 @@ returns c =
     let k = c .before .before .before in
     let a = k .before .before .args in
     let w = wide k in
-    let h : 8 * length (now (a .src)) < bitAt (a .pos) + 1 * k .mant .result = leb-false _ _ (sym (c .before .holds .ensures) ∙ not-true _ (c .if2 .taken)) in (
+    let h : 8 * length (now (a .src)) < bitAt (a .pos) + 1 * k .mant .result = leb-false _ _ (sym (c .before .has-bits .ensures) ∙ not-true _ (c .if2 .taken)) in (
       sym (coded-one-none (mantBits (a .hebap)) (a .gk) _ (eq-eqb _ _ (c .before .before .if1 .taken)) _
           (rw (← k .mant .ensures) (number-missing (now (a .src)) (bitAt (a .pos)) (k .mant .result) (omega arith) (omega arith) (inl (omega arith))))),
       tt,
     )
 
-number-requires : tie.Need-number-requires
-number-requires c κs = let w = wide (c .before .before .before) in let h = fits c in search needs
+peek-requires : tie.Need-peek-requires
+peek-requires c κs = let w = wide (c .before .before .before) in let h = fits c in search needs
 
-cast-after : tie.Need-cast-after
-cast-after c = let w = wide (c .before .before .before .before) in search needs
+cast-advance : tie.Need-cast-advance
+cast-advance c = let w = wide (c .before .before .before .before) in search needs
 
-after-requires : tie.Need-after-requires
-after-requires c κs = let h = fits (c .before) in search needs
+advance-requires : tie.Need-advance-requires
+advance-requires c κs = let h = fits (c .before) in search needs
 
 returns-2 : tie.Need-returns-2
 returns-2 c =
@@ -66,18 +60,12 @@ returns-2 c =
     let a = k .before .before .args in
     let w = wide k in
     let e : bitAt (a .pos) + 1 * k .mant .result ≡ bitAt (a .pos) + k .mant .result = omega arith in
-    let q : c .after .result ≡ posOf (bitAt (a .pos) + k .mant .result) = c .after .ensures ∙ ap posOf e in
-    rw (q, c .before .number .ensures) (
+    let q : c .advance .result ≡ posOf (bitAt (a .pos) + k .mant .result) = c .advance .ensures ∙ ap posOf e in
+    rw (q, c .before .peek .ensures) (
       sym (coded-one-large (mantBits (a .hebap)) (a .gk) _ (eq-eqb _ _ (f .before .before .if1 .taken)) _ _
           (rw (← k .mant .ensures) (number-there (now (a .src)) (bitAt (a .pos)) (k .mant .result) (omega arith) (fits f)))),
       behind-inside (now (a .src)) (bitAt (a .pos)) (k .mant .result) (omega arith) (fits f),
     )
-
-small-bits-requires : tie.Need-small-bits-requires
-small-bits-requires c κs = wide (c .before) .0
-
-large-bits-requires : tie.Need-large-bits-requires
-large-bits-requires c κs = wide (c .before .before) .0
 
 within : (m : ℕ) (t : Bool) → 3 ≤ m → m ≤ 16 → (1 ≤ cond t (m - 1) (m - 2)) × (cond t (m - 1) (m - 2) ≤ 16) × (cond t (m - 1) m ≤ 16)
 within m true h k = (omega arith, omega arith, omega arith)
@@ -102,16 +90,6 @@ returns-3 c =
 pub read-code-spec : {M : Type 1} → statement M
 read-code-spec =
     tie.close
-    (tie.spec
-    mant-requires
-    cast-holds
-    holds-requires
-    returns
-    number-requires
-    cast-after
-    after-requires
-    returns-2
-    small-bits-requires
-    large-bits-requires
-    read-tagged-requires
+    (tie.spec (λ c κs. search needs) cast-has-bits (λ c κs. search needs) returns peek-requires cast-advance
+    advance-requires returns-2 (λ c κs. wide (c .before) .0) (λ c κs. wide (c .before .before) .0) read-tagged-requires
     returns-3)

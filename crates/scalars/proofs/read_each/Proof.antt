@@ -1,4 +1,4 @@
--- `scalars::read_each` meets its contract: before each turn the codes read so far are known (Six.SoFar). Assumes nothing.
+-- `scalars::read_each` meets its contract. The invariant is Six.SoFar: the codes read so far. Assumes nothing.
 use Prim.Native.Nat.{_-_, _*_}
 use mathlib.Core.Path.{_≡_, refl, sym, ap, _∙_}
 use denote.Ref.{now}
@@ -8,33 +8,21 @@ use Rattle.bits.specs.Format.{got}
 use Rattle.tables.specs.Tables.{mantBits}
 use Rattle.levels.specs.Codes.{coded}
 use Rattle.scalars.specs.Scalars.{codeIn}
-use Rattle.scalars.proofs.Six.{SoFar, none-yet, in-lists, one-more, cut, cut-there, put, all-read, code-accepted}
+use Rattle.scalars.proofs.Six.{SoFar, none-yet, in-lists, one-more, cut, all-read, code-accepted}
 use native.Mathlib.Omega.{arith}
 use borrow.Author.Needs.{needs}
 use Rattle.scalars.proofs.read_each.Statement.{statement}
 use Rattle.scalars.proofs.read_each.Tie as tie
 
 abbrev Inv-loop : tie.InvT-loop
-Inv-loop s src hebap gk at values₀ exact₀ p₀ j₀ values exact p j =
-    SoFar hebap gk at src (bitAt p₀) values₀ exact₀ p j values exact × (length values ≡ length values₀) × (length exact ≡ length exact₀)
+Inv-loop s src at values₀ exact₀ p₀ j₀ values exact p j =
+    SoFar (s .hebap) (s .gk) at src (bitAt p₀) values₀ exact₀ p j values exact × (length values ≡ length values₀) × (length exact ≡ length exact₀)
 
 abbrev μ-loop : tie.MeasureT-loop
-μ-loop s src hebap gk at values₀ exact₀ p₀ j₀ values exact p j = 6 - j
+μ-loop s src at values₀ exact₀ p₀ j₀ values exact p j = 6 - j
 
 loop-holds : tie.Need-loop-holds Inv-loop μ-loop
-loop-holds c = let b = c .before .before in let a = b .args in (none-yet (a .hebap) (a .gk) (a .at) (now (a .src)) (bitAt (a .pos)) (now (a .values)) (now (a .exact)) (a .pos) refl (b .pre .1 .1 .0), refl, refl)
-
-read-code-requires : tie.Need-read-code-requires Inv-loop μ-loop
-read-code-requires c κs = search needs
-
-enum-known-r : tie.Need-enum-known-r Inv-loop μ-loop
-enum-known-r c = search needs
-
-same-length : tie.Need-same-length Inv-loop μ-loop
-same-length c = search needs
-
-same-length-2 : tie.Need-same-length-2 Inv-loop μ-loop
-same-length-2 c = search needs
+loop-holds c = let b = c .before .before in let a = b .args in (none-yet (a .s .hebap) (a .s .gk) (a .at) (now (a .src)) (bitAt (a .pos)) (now (a .values)) (now (a .exact)) (a .pos) refl (b .pre .1 .0), refl, refl)
 
 returns : tie.Need-returns Inv-loop μ-loop
 returns c =
@@ -42,17 +30,11 @@ returns c =
     let a = l .before .before .before .args in
     let r = c .before .before .before in
     let e = sym (r .read-code .ensures .0) ∙ ap (codeIn (bitsOf (now (a .src)))) (c .before .r .given .1) in
-    let f = l .loop .inv .0 in
-    let q = cut-there (a .hebap) (a .gk) (a .at) (now (a .src)) (bitAt (a .pos)) (now (a .values)) (now (a .exact)) (l .loop .p) (l .loop .j) (l .loop .values) (l .loop .exact) f (omega arith) _ e in
-    let w = put (a .hebap) (a .gk) (a .at) (now (a .src)) (bitAt (a .pos)) (now (a .values)) (now (a .exact)) (l .loop .p) (l .loop .j) (l .loop .values) (l .loop .exact) f q in
-    (rw (cut (a .hebap) (a .gk) (a .at) (now (a .src)) (bitAt (a .pos)) (now (a .values)) (now (a .exact)) (l .loop .p) (l .loop .j) (l .loop .values) (l .loop .exact) f (omega arith) _ e) refl, (w .0, w .1))
-
-enum-known-r-2 : tie.Need-enum-known-r-2 Inv-loop μ-loop
-enum-known-r-2 c = search needs
+    cut (l .loop .inv .0) (omega arith) _ e
 
 -- the code that a match has taken out, and the position behind it
 code-is : (c : tie.After-known-told2 Inv-loop μ-loop) → let l = c .before .before .before .before .before in let a = l .before .before .before .args in let g = c .before .r2 .given in
-    coded (mantBits (a .hebap)) (a .gk) .dec (drop (bitAt (l .loop .p)) (bitsOf (now (a .src)))) ≡ got (g .0 .0) (drop (bitAt (g .0 .1 .0)) (bitsOf (now (a .src))))
+    coded (mantBits (a .s .hebap)) (a .s .gk) .dec (drop (bitAt (l .loop .p)) (bitsOf (now (a .src)))) ≡ got (g .0 .0) (drop (bitAt (g .0 .1 .0)) (bitsOf (now (a .src))))
 code-is c =
     let r = c .before .before .before in
     let a = r .before .before .before .before .before .args in
@@ -71,13 +53,7 @@ put-values-requires c κs =
     let k = c .before .before in
     let s = k .before .before .before .before .before .before .before .before in
     let l = k .before .before .before .before .before in
-    (s .pre .0, (s .pre .1 .0, (code-accepted (s .args .hebap) (s .args .gk) _ _ _ (code-is k), (omega (arith, l .loop .inv .1, s .pre .1 .1 .1), omega (arith, l .loop .inv .2, s .pre .1 .1 .1)))))
-
-add-j : tie.Need-add-j Inv-loop μ-loop
-add-j c = search needs
-
-loop-less : tie.Need-loop-less Inv-loop μ-loop
-loop-less c = search needs
+    (s .pre .0, (code-accepted (s .args .s .hebap) (s .args .s .gk) _ _ _ (code-is k), (omega (arith, l .loop .inv .1, s .pre .1 .1), omega (arith, l .loop .inv .2, s .pre .1 .1))))
 
 loop-again : tie.Need-loop-again Inv-loop μ-loop
 loop-again c =
@@ -86,44 +62,20 @@ loop-again c =
     let l = k .before .before .before .before .before in
     let s = l .before .before .before in
     let a = s .args in
-    let w = s .pre .1 .1 .1 in (
-      in-lists (a .hebap) (a .gk) (a .at) (now (a .src)) (bitAt (a .pos)) (now (a .values)) (now (a .exact)) _ _ _ _ _ _ (b .put-values .ensures .0) (b .put-values .ensures .1)
-          (one-more (a .hebap) (a .gk) (a .at) (now (a .src)) (bitAt (a .pos)) (now (a .values)) (now (a .exact)) (l .loop .p) (l .loop .j) (l .loop .values) (l .loop .exact) (l .loop .inv .0) (omega arith)
-          (k .before .r2 .given .0 .0) (k .before .r2 .given .0 .1 .0) _ _ (w .0) (w .1) (next-in k) (code-is k) refl refl),
+    let w = s .pre .1 .1 in (
+      in-lists
+          (one-more (l .loop .inv .0) (omega arith) (k .before .r2 .given .0 .0) (k .before .r2 .given .0 .1 .0) _ _ (w .0) (w .1) (next-in k) (code-is k) refl refl) _ _
+          (b .put-values .ensures .0) (b .put-values .ensures .1),
       c .before .before .values .given ∙ l .loop .inv .1,
       c .exact .given ∙ l .loop .inv .2,
     )
 
-same-length-3 : tie.Need-same-length-3 Inv-loop μ-loop
-same-length-3 c = search needs
-
-same-length-4 : tie.Need-same-length-4 Inv-loop μ-loop
-same-length-4 c = search needs
-
 returns-2 : tie.Need-returns-2 Inv-loop μ-loop
-returns-2 c =
-    let l = c .before in
-    let a = l .before .before .before .args in
-    all-read (a .hebap) (a .gk) (a .at) (now (a .src)) (bitAt (a .pos)) (now (a .values)) (now (a .exact)) (l .loop .p) (l .loop .j) (l .loop .values) (l .loop .exact) (l .loop .inv .0) (omega arith) (l .loop .p) refl
+returns-2 c = let l = c .before in all-read (l .loop .inv .0) (omega arith) (l .loop .p) refl
 
 pub read-each-spec : {M : Type 1} → statement M
 read-each-spec =
     tie.close
-    (tie.spec
-    Inv-loop
-    μ-loop
-    loop-holds
-    read-code-requires
-    enum-known-r
-    same-length
-    same-length-2
-    returns
-    enum-known-r-2
-    add-put-values
-    put-values-requires
-    add-j
-    loop-less
-    loop-again
-    same-length-3
-    same-length-4
-    returns-2)
+    (tie.spec Inv-loop μ-loop loop-holds (λ c κs. search needs) (λ c. search needs) (λ c. search needs)
+    (λ c. search needs) returns (λ c. search needs) add-put-values put-values-requires (λ c. search needs)
+    (λ c. search needs) loop-again (λ c. search needs) (λ c. search needs) returns-2)

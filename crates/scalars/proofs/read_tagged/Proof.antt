@@ -14,113 +14,93 @@ use borrow.Author.Needs.{needs}
 use Rattle.scalars.proofs.read_tagged.Statement.{statement}
 use Rattle.scalars.proofs.read_tagged.Tie as tie
 
-holds-requires : tie.Need-holds-requires
-holds-requires c κs = search needs
+abbrev start : tie.Else1 → tie.Start
+start c = c .before .before .before
 
 -- the first number is there
-fits : (c : tie.Else1) → let a = c .before .before .before .args in bitAt (a .pos) + a .w ≤ 8 * length (now (a .src))
+fits : (c : tie.Else1) → let a = start c .args in bitAt (a .pos) + a .w ≤ 8 * length (now (a .src))
 fits c =
-    let a = c .before .before .before .args in
-    let h : bitAt (a .pos) + 1 * a .w ≤ 8 * length (now (a .src)) = leb-true _ _ (sym (c .before .holds .ensures) ∙ not-false _ (c .if1 .left)) in
+    let a = start c .args in
+    let h : bitAt (a .pos) + 1 * a .w ≤ 8 * length (now (a .src)) = leb-true _ _ (sym (c .before .has-bits .ensures) ∙ not-false _ (c .if1 .left)) in
     omega arith
 
 returns : tie.Need-returns
 returns c =
     let a = c .before .before .before .args in
-    let h : 8 * length (now (a .src)) < bitAt (a .pos) + 1 * a .w = leb-false _ _ (sym (c .before .holds .ensures) ∙ not-true _ (c .if1 .taken)) in
+    let h : 8 * length (now (a .src)) < bitAt (a .pos) + 1 * a .w = leb-false _ _ (sym (c .before .has-bits .ensures) ∙ not-true _ (c .if1 .taken)) in
     (sym (tagged-none _ _ _ _ (number-missing (now (a .src)) (bitAt (a .pos)) (a .w) (omega arith) (omega arith) (inl (omega arith)))), tt)
 
-number-requires : tie.Need-number-requires
-number-requires c κs = let h = fits c in search needs
+peek-requires : tie.Need-peek-requires
+peek-requires c κs = let h = fits c in search needs
 
-after-requires : tie.Need-after-requires
-after-requires c κs = let h = fits (c .before) in search needs
-
-sub-two-to : tie.Need-sub-two-to
-sub-two-to c = search needs
-
-two-to-requires : tie.Need-two-to-requires
-two-to-requires c κs = search needs
+advance-requires : tie.Need-advance-requires
+advance-requires c κs = let h = fits (c .before) in search needs
 
 -- the position behind the first number, and what is read up to there
-next-is : (c : tie.After-after) → let a = c .before .before .before .before .before .args in c .after .result ≡ posOf (bitAt (a .pos) + a .w)
+next-is : (c : tie.After-advance) → let a = start (c .before .before) .args in c .advance .result ≡ posOf (bitAt (a .pos) + a .w)
 next-is c =
-    let a = c .before .before .before .before .before .args in
+    let a = start (c .before .before) .args in
     let e : bitAt (a .pos) + 1 * a .w ≡ bitAt (a .pos) + a .w = omega arith in
-    c .after .ensures ∙ ap posOf e
+    c .advance .ensures ∙ ap posOf e
 
-inside : (c : tie.After-after) → let a = c .before .before .before .before .before .args in Inside (8 * length (now (a .src))) (c .after .result)
+inside : (c : tie.After-advance) → let a = start (c .before .before) .args in Inside (8 * length (now (a .src))) (c .advance .result)
 inside c =
-    let a = c .before .before .before .before .before .args in
+    let a = start (c .before .before) .args in
     rw (next-is c) (behind-inside (now (a .src)) (bitAt (a .pos)) (a .w) (omega arith) (fits (c .before .before)))
 
-first-is : (c : tie.After-after) → let a = c .before .before .before .before .before .args in
-    number (a .w) .dec (drop (bitAt (a .pos)) (bitsOf (now (a .src)))) ≡ got (c .before .number .result) (drop (bitAt (c .after .result)) (bitsOf (now (a .src))))
+first-is : (c : tie.After-advance) → let a = start (c .before .before) .args in
+    number (a .w) .dec (drop (bitAt (a .pos)) (bitsOf (now (a .src)))) ≡ got (c .before .peek .result) (drop (bitAt (c .advance .result)) (bitsOf (now (a .src))))
 first-is c =
-    let a = c .before .before .before .before .before .args in
-    rw (next-is c, c .before .number .ensures) (number-there (now (a .src)) (bitAt (a .pos)) (a .w) (omega arith) (fits (c .before .before)))
+    let a = start (c .before .before) .args in
+    rw (next-is c, c .before .peek .ensures) (number-there (now (a .src)) (bitAt (a .pos)) (a .w) (omega arith) (fits (c .before .before)))
 
 returns-2 : tie.Need-returns-2
 returns-2 c =
     let k = c .before .before in
-    (sym (tagged-small _ _ _ _ _ (first-is k) (λ e. c .if2 .taken (e ∙ sym (c .before .two-to .ensures)))), inside k)
-
-holds-requires-2 : tie.Need-holds-requires-2
-holds-requires-2 c κs = search needs
+    (sym (tagged-small _ _ _ _ _ (first-is k) (λ e. c .if2 .taken (e ∙ sym (c .before .pow2 .ensures)))), inside k)
 
 returns-3 : tie.Need-returns-3
 returns-3 c =
     let t = c .before .before in
     let k = t .before .before in
-    let a = k .before .before .before .before .before .args in
-    let p = bitAt (k .after .result) in
+    let a = start (k .before .before) .args in
+    let p = bitAt (k .advance .result) in
     let i = inside k in
-    let h : 8 * length (now (a .src)) < p + 1 * a .v = leb-false _ _ (sym (c .before .holds2 .ensures) ∙ not-true _ (c .if3 .taken)) in
-    (sym (tagged-cut _ _ _ _ _ _ (first-is k) (t .if2 .left ∙ t .before .two-to .ensures) (number-missing (now (a .src)) p (a .v) (omega arith) (omega arith) (inr (i .0)))), tt)
+    let h : 8 * length (now (a .src)) < p + 1 * a .v = leb-false _ _ (sym (c .before .has-bits2 .ensures) ∙ not-true _ (c .if3 .taken)) in
+    (sym (tagged-cut _ _ _ _ _ _ (first-is k) (t .if2 .left ∙ t .before .pow2 .ensures) (number-missing (now (a .src)) p (a .v) (omega arith) (omega arith) (inr (i .0)))), tt)
 
 -- the second number is there
-fits-2 : (c : tie.Else3) → let k = c .before .before .before .before in let a = k .before .before .before .before .before .args in bitAt (k .after .result) + a .v ≤ 8 * length (now (a .src))
+fits-2 : (c : tie.Else3) → let k = c .before .before .before .before in let a = start (k .before .before) .args in bitAt (k .advance .result) + a .v ≤ 8 * length (now (a .src))
 fits-2 c =
     let k = c .before .before .before .before in
-    let a = k .before .before .before .before .before .args in
-    let h : bitAt (k .after .result) + 1 * a .v ≤ 8 * length (now (a .src)) = leb-true _ _ (sym (c .before .holds2 .ensures) ∙ not-false _ (c .if3 .left)) in
+    let a = start (k .before .before) .args in
+    let h : bitAt (k .advance .result) + 1 * a .v ≤ 8 * length (now (a .src)) = leb-true _ _ (sym (c .before .has-bits2 .ensures) ∙ not-false _ (c .if3 .left)) in
     omega arith
 
-number-requires-2 : tie.Need-number-requires-2
-number-requires-2 c κs = let h = fits-2 c in search needs
+peek-requires-2 : tie.Need-peek-requires-2
+peek-requires-2 c κs = let h = fits-2 c in search needs
 
-after-requires-2 : tie.Need-after-requires-2
-after-requires-2 c κs = let h = fits-2 (c .before) in search needs
+advance-requires-2 : tie.Need-advance-requires-2
+advance-requires-2 c κs = let h = fits-2 (c .before) in search needs
 
 returns-4 : tie.Need-returns-4
 returns-4 c =
     let f = c .before .before in
     let t = f .before .before in
     let k = t .before .before in
-    let s = k .before .before .before .before .before in
+    let s = start (k .before .before) in
     let a = s .args in
     let u : a .v ≤ 32 = let z = s .pre .0 .2 in omega arith in
-    let p = bitAt (k .after .result) in
+    let p = bitAt (k .advance .result) in
     let e : p + 1 * a .v ≡ p + a .v = omega arith in
-    let q : c .after2 .result ≡ posOf (p + a .v) = c .after2 .ensures ∙ ap posOf e in
-    rw (q, c .before .number2 .ensures) (
-      sym (tagged-large _ _ _ _ _ _ _ (first-is k) (t .if2 .left ∙ t .before .two-to .ensures) (number-there (now (a .src)) p (a .v) u (fits-2 f))),
+    let q : c .advance2 .result ≡ posOf (p + a .v) = c .advance2 .ensures ∙ ap posOf e in
+    rw (q, c .before .peek2 .ensures) (
+      sym (tagged-large _ _ _ _ _ _ _ (first-is k) (t .if2 .left ∙ t .before .pow2 .ensures) (number-there (now (a .src)) p (a .v) u (fits-2 f))),
       behind-inside (now (a .src)) p (a .v) u (fits-2 f),
     )
 
 pub read-tagged-spec : {M : Type 1} → statement M
 read-tagged-spec =
     tie.close
-    (tie.spec
-    holds-requires
-    returns
-    number-requires
-    after-requires
-    sub-two-to
-    two-to-requires
-    returns-2
-    holds-requires-2
-    returns-3
-    number-requires-2
-    after-requires-2
-    returns-4)
+    (tie.spec (λ c κs. search needs) returns peek-requires advance-requires (λ c. search needs) (λ c κs. search needs)
+    returns-2 (λ c κs. search needs) returns-3 peek-requires-2 advance-requires-2 returns-4)

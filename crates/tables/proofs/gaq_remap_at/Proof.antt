@@ -13,21 +13,6 @@ use Rattle.tables.proofs.Rules.{remap-fits}
 use Rattle.tables.proofs.gaq_remap_at.Statement.{statement}
 use Rattle.tables.proofs.gaq_remap_at.Tie as tie
 
-remap-row-requires : tie.Need-remap-row-requires
-remap-row-requires c κs = search needs
-
-mul-i : tie.Need-mul-i
-mul-i c = let e = c .remap-row .ensures in omega arith
-
-add-i : tie.Need-add-i
-add-i c = let e = c .remap-row .ensures in omega arith
-
-mul-result : tie.Need-mul-result
-mul-result c = search needs
-
-array-copy-out-result : tie.Need-array-copy-out-result
-array-copy-out-result c = search needs
-
 returns : tie.Need-returns
 unfolding gaqRemapAt gaqRemapTable
 returns c =
@@ -50,4 +35,5 @@ returns-2 c =
 pub gaq-remap-at-spec : {M : Type 1} → statement M
 gaq-remap-at-spec =
     tie.close
-    (tie.spec remap-row-requires mul-i add-i mul-result array-copy-out-result returns returns-2)
+    (tie.spec (λ c κs. search needs) (λ c. let e = c .remap-row .ensures in omega arith)
+    (λ c. let e = c .remap-row .ensures in omega arith) (λ c. search needs) (λ c. search needs) returns returns-2)

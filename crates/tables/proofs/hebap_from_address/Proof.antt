@@ -9,39 +9,15 @@ taken c =
     let s = c .before .before in
     known (s .args .psd) (s .args .mask-after-floor) (s .fits .psd) (s .fits .mask-after-floor) (c .before .if1 .left) (c .if2 .left)
 
-returns : tie.Need-returns
-returns c = let s = c .before in too-low (s .args .psd) (s .args .mask-after-floor) (s .fits .mask-after-floor) (c .if1 .taken)
-
 returns-2 : tie.Need-returns-2
 returns-2 c =
     let s = c .before .before in
     too-high (s .args .psd) (s .args .mask-after-floor) (s .fits .mask-after-floor) (c .before .if1 .left) (c .if2 .taken)
 
-cast-d : tie.Need-cast-d
-cast-d c = psd-fits (c .before .before .args .psd) (c .before .before .fits .psd)
-
-sub-d : tie.Need-sub-d
-sub-d c = taken c .fits
-
-hebap-at-requires : tie.Need-hebap-at-requires
-hebap-at-requires c κs = search needs
-
-returns-3 : tie.Need-returns-3
-returns-3 c = taken (c .before .before) .below (c .hebap-at .result) (c .hebap-at .ensures) (c .before .if3 .taken)
-
-cast-address : tie.Need-cast-address
-cast-address c = taken (c .before) .cast (c .if3 .left)
-
-hebap-at-requires-2 : tie.Need-hebap-at-requires-2
-hebap-at-requires-2 c κs = search needs
-
 returns-4 : tie.Need-returns-4
 returns-4 c =
     taken (c .before .before .before) .beyond (c .hebap-at2 .result) (c .hebap-at2 .ensures)
     (c .before .before .if3 .left) (c .before .if4 .taken)
-
-hebap-at-requires-3 : tie.Need-hebap-at-requires-3
-hebap-at-requires-3 c κs = search needs
 
 returns-5 : tie.Need-returns-5
 returns-5 c =
@@ -51,15 +27,8 @@ returns-5 c =
 pub hebap-from-address-spec : {M : Type 1} → statement M
 hebap-from-address-spec =
     tie.close
-    (tie.spec
-    returns
-    returns-2
-    cast-d
-    sub-d
-    hebap-at-requires
-    returns-3
-    cast-address
-    hebap-at-requires-2
-    returns-4
-    hebap-at-requires-3
-    returns-5)
+    (tie.spec (λ c. let s = c .before in too-low (s .args .psd) (s .args .mask-after-floor) (s .fits .mask-after-floor) (c .if1 .taken))
+    returns-2 (λ c. psd-fits (c .before .before .args .psd) (c .before .before .fits .psd)) (λ c. taken c .fits)
+    (λ c κs. search needs)
+    (λ c. taken (c .before .before) .below (c .hebap-at .result) (c .hebap-at .ensures) (c .before .if3 .taken))
+    (λ c. taken (c .before) .cast (c .if3 .left)) (λ c κs. search needs) returns-4 (λ c κs. search needs) returns-5)

@@ -4,8 +4,8 @@ use mathlib.Core.Path.{_≡_, _∙_}
 use borrow.Author.Needs.{needs}
 use denote.Ref.{now}
 use Rattle.bits.specs.Bits.{bitsN, bitAt, posOf, bytesWith}
-use Rattle.bits.specs.declared.BitWrite.the-variants.{Done}
-use Rattle.bits.proofs.Laws.{write-good}
+use Rattle.bits.specs.declared.BitMove.the-variants.{Done}
+use Rattle.bits.proofs.Laws.{write-good, length-bitsN}
 use Rattle.writer.proofs.Turns.{same-done, not-refused}
 use Rattle.writer.proofs.put.Statement.{statement}
 use Rattle.writer.proofs.put.Tie as tie
@@ -17,28 +17,13 @@ done : (c : tie.After-write-u32)
 done c =
     let s = c .before .before .before in
     let a = s .args in
-    let g = write-good (now (a .out)) (bitAt (a .p)) (a .v) (a .n) (s .pre .0) (s .pre .1) in
+    let g = write-good (now (a .out)) (bitAt (a .p)) (a .v) (a .n) (s .pre .0) (rw length-bitsN at (s .pre .1)) in
     (c .write-u32 .ensures .0 ∙ g .0, c .write-u32 .ensures .1 ∙ g .1)
-
-write-u32-requires : tie.Need-write-u32-requires
-write-u32-requires c κs = search needs
-
-enum-known-q : tie.Need-enum-known-q
-enum-known-q c = search needs
-
-enum-told : tie.Need-enum-told
-enum-told c = search needs
-
-same-length : tie.Need-same-length
-same-length c = search needs
 
 returns : tie.Need-returns
 returns c =
     let d = done (c .before .before .before .before .before) in
-    (same-done _ _ _ (c .before .q .given .1) (d .0), d .1)
-
-same-length-2 : tie.Need-same-length-2
-same-length-2 c = search needs
+    record { place = same-done _ _ _ (c .before .q .given .1) (d .0) ∙ rw length-bitsN; bytes = d .1 }
 
 returns-2 : tie.Need-returns-2
 returns-2 c =
@@ -48,11 +33,5 @@ returns-2 c =
 pub put-spec : {M : Type 1} → statement M
 put-spec =
     tie.close
-    (tie.spec
-    write-u32-requires
-    enum-known-q
-    enum-told
-    same-length
-    returns
-    same-length-2
-    returns-2)
+    (tie.spec (λ c κs. search needs) (λ c. search needs) (λ c. search needs) (λ c. search needs) returns
+    (λ c. search needs) returns-2)

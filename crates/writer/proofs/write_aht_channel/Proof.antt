@@ -5,17 +5,18 @@ use borrow.Author.Tests.{not-true, not-false, leb-true, leb-false}
 use Prim.Native.Nat.{_+_, _*_, _≤_, _<_}
 use native.Mathlib.Nat.{le-trans, le-of-eq}
 use mathlib.Core.Bool.{true}
-use mathlib.Core.Path.{_≡_, sym, ap, _∙_}
+use mathlib.Core.Path.{_≡_, refl, sym, ap, _∙_}
 use denote.Ref.{now}
 use lib.ListN.{length}
 use lib.Seq.{length-take-le}
 use Rattle.bits.specs.Bits.{bitAt}
 use Rattle.planner.specs.Choice.{choiceBits, Choice}
 use Rattle.planner.specs.Work.{Within}
-use Rattle.planner.specs.Planning.{causeOf, totalOf}
+use Rattle.planner.specs.Planning.{causeOf, totalOf, gainsOf}
 use Rattle.planner.specs.Fit.{planFits}
 use Rattle.planner.proofs.Answer.{cause-none}
-use Rattle.writer.specs.Written.{gainsOf}
+use Rattle.writer.specs.Written.{fieldOf}
+use Rattle.writer.proofs.Planned.{fits-long}
 use Rattle.writer.proofs.Call.{count-few, fitting, call-cause, call-unfit, call-short, call-good}
 use Rattle.writer.proofs.write_aht_channel.Statement.{statement}
 use Rattle.writer.proofs.write_aht_channel.Tie as tie
@@ -30,7 +31,7 @@ fits c = sym (c .before .plan-fits .ensures) ∙ not-false _ (c .if2 .left)
 room : (c : tie.Else3) → let a = c .before .before .before .before .before .before .before .before .before .before .args in bitAt (a .pos) + totalOf (a .plan) ≤ 8 * length (now (a .out))
 room c =
     let a = c .before .before .before .before .before .before .before .before .before .before .args in
-    let h : bitAt (a .pos) + 1 * totalOf (a .plan) ≤ 8 * length (now (a .out)) = leb-true _ _ (sym (c .before .holds .ensures) ∙ not-false _ (c .if3 .left)) in
+    let h : bitAt (a .pos) + 1 * totalOf (a .plan) ≤ 8 * length (now (a .out)) = leb-true _ _ (sym (c .before .has-bits .ensures) ∙ not-false _ (c .if3 .left)) in
     omega arith
 
 within : (c : tie.Else1) → let a = c .before .before .before .before .before .args in Within (now (a .hebap)) (a .start) (a .end) (now (a .x))
@@ -53,8 +54,12 @@ choice c =
     let a = c .before .before .before .before .before .before .before .args in
     fitting (a .plan) (now (a .hebap)) (a .start) (a .end) (now (a .x)) (fits c) (few c)
 
-cause-requires : tie.Need-cause-requires
-cause-requires c κs = search needs
+-- the field is as long as announced
+long : (c : tie.Else2) → let a = c .before .before .before .before .before .before .before .args in length (fieldOf (a .plan) (now (a .hebap)) (a .start) (a .end) (now (a .x))) ≡ totalOf (a .plan)
+long c =
+    let s = c .before .before .before .before .before .before .before in
+    let a = s .args in
+    fits-long (a .plan) (now (a .hebap)) (a .start) (a .end) (now (a .x)) (places s) (none (c .before .before)) (fits c)
 
 returns : tie.Need-returns
 returns c =
@@ -69,20 +74,11 @@ returns-2 c =
     let a = c .before .before .before .before .before .before .before .args in
     call-unfit (a .plan) (now (a .hebap)) (a .start) (a .end) (now (a .x)) (now (a .out)) (bitAt (a .pos)) (none (c .before .before)) (sym (c .before .plan-fits .ensures) ∙ not-true _ (c .if2 .taken))
 
-cast-holds : tie.Need-cast-holds
-cast-holds c = search needs
-
-add-holds : tie.Need-add-holds
-add-holds c = search needs
-
-holds-requires : tie.Need-holds-requires
-holds-requires c κs = search needs
-
 returns-3 : tie.Need-returns-3
 returns-3 c =
     let p = c .before .before .before in
     let a = p .before .before .before .before .before .before .before .args in
-    let h : 8 * length (now (a .out)) < bitAt (a .pos) + 1 * totalOf (a .plan) = leb-false _ _ (sym (c .before .holds .ensures) ∙ not-true _ (c .if3 .taken)) in
+    let h : 8 * length (now (a .out)) < bitAt (a .pos) + 1 * totalOf (a .plan) = leb-false _ _ (sym (c .before .has-bits .ensures) ∙ not-true _ (c .if3 .taken)) in
     call-short (a .plan) (now (a .hebap)) (a .start) (a .end) (now (a .x)) (now (a .out)) (bitAt (a .pos)) (none (p .before .before)) (fits p) (omega arith)
 
 array-share-prefix-gains : tie.Need-array-share-prefix-gains
@@ -102,10 +98,7 @@ write-choice-requires c κs =
     let a = g .before .before .before .before .before .args in
     let k = cause-none (now (a .hebap)) (a .start) (a .end) (now (a .x)) (none g) in
     let h = choice f in
-    (k .0, ((k .1, k .2), (h .0, le-trans (le-of-eq (ap (λ n. bitAt (a .pos) + n) (h .1))) (room e))))
-
-same-length : tie.Need-same-length
-same-length c = search needs
+    (k .0, (h .0, le-trans (le-of-eq (ap (λ n. bitAt (a .pos) + n) (long f))) (room e)))
 
 returns-4 : tie.Need-returns-4
 returns-4 c =
@@ -114,22 +107,11 @@ returns-4 c =
     let f = e .before .before .before in
     let g = f .before .before in
     let a = g .before .before .before .before .before .args in
-    call-good (a .plan) (now (a .hebap)) (a .start) (a .end) (now (a .x)) (now (a .out)) (bitAt (a .pos)) (none g) (fits f) (room e) _ _ _ (choice f .1) (w .write-choice .ensures)
+    call-good (a .plan) (now (a .hebap)) (a .start) (a .end) (now (a .x)) (now (a .out)) (bitAt (a .pos)) (none g) (fits f) (room e) (a .pos) _ _ refl (long f) (w .write-choice .ensures)
 
 pub write-aht-channel-spec : {M : Type 1} → statement M
 write-aht-channel-spec =
     tie.close
-    (tie.spec
-    cause-requires
-    returns
-    plan-fits-requires
-    returns-2
-    cast-holds
-    add-holds
-    holds-requires
-    returns-3
-    array-share-prefix-gains
-    slice-aggregate-write-choice
-    write-choice-requires
-    same-length
-    returns-4)
+    (tie.spec (λ c κs. search needs) returns plan-fits-requires returns-2 (λ c. search needs) (λ c. search needs)
+    (λ c κs. search needs) returns-3 array-share-prefix-gains slice-aggregate-write-choice write-choice-requires
+    (λ c. search needs) returns-4)

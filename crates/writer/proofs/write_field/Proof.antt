@@ -2,7 +2,7 @@
 use native.Mathlib.Omega.{arith}
 use borrow.Author.Needs.{needs}
 use denote.Ref.{now}
-use Rattle.writer.proofs.Call.{few-gains, parts-bits, gains-room, bins-room, field-put}
+use Rattle.writer.proofs.Call.{few-gains, mode-room, gains-room, bins-room, field-put}
 use Rattle.writer.proofs.write_field.Statement.{statement}
 use Rattle.writer.proofs.write_field.Tie as tie
 
@@ -10,19 +10,16 @@ put-requires : tie.Need-put-requires
 put-requires c κs =
     let s = c .before .before .before .before .before .before in
     let a = s .args in
-    let e = parts-bits (a .mode) (now (a .gains)) (now (a .row)) (now (a .x)) (a .start) (a .end) (s .pre .0) (s .pre .1 .0) (s .pre .1 .1 .0) in
-    let r = s .pre .1 .1 .1 .1 in
-    (omega arith, omega arith)
+    (omega arith, mode-room (a .mode) (now (a .gains)) (now (a .row)) (now (a .x)) (a .start) (a .end) (s .pre .0 .row-ok .few) (s .pre .1 .0) (now (a .out)) (a .p) (s .pre .1 .1 .1))
 
 write-gains-requires : tie.Need-write-gains-requires
 write-gains-requires c κs =
     let w = c .before .before .before in
     let s = w .before .before .before .before .before .before .before in
     let a = s .args in
-    let r = gains-room (a .mode) (now (a .gains)) (now (a .row)) (now (a .x)) (a .start) (a .end) (s .pre .0) (s .pre .1 .0) (s .pre .1 .1 .0) _ _ (a .p) _ (s .pre .1 .1 .1 .1) (w .put .ensures) in (
-      s .pre .1 .1 .0 .mode-is,
-      (r .0, (few-gains (a .mode) (now (a .gains)) (now (a .row)) (now (a .x)) (a .start) (a .end) (s .pre .0) (s .pre .1 .0) (s .pre .1 .1 .0), r .1)),
-    )
+    let f = s .pre .0 .row-ok .few in
+    let r = gains-room (a .mode) (now (a .gains)) (now (a .row)) (now (a .x)) (a .start) (a .end) f (s .pre .1 .0) (now (a .out)) (a .p) (s .pre .1 .1 .1) _ _ (w .put .ensures) in
+    (s .pre .1 .0 .mode-is, (r .0, (few-gains (a .mode) (now (a .gains)) (now (a .row)) (now (a .x)) (a .start) (a .end) f (s .pre .1 .0), r .1)))
 
 write-bins-requires : tie.Need-write-bins-requires
 write-bins-requires c κs =
@@ -30,12 +27,9 @@ write-bins-requires c κs =
     let w = g .before .before .before .before in
     let s = w .before .before .before .before .before .before .before in
     let a = s .args in
-    let i = s .pre .0 in
-    let r = bins-room (a .mode) (now (a .gains)) (now (a .row)) (now (a .x)) (a .start) (a .end) i (s .pre .1 .0) (s .pre .1 .1 .0) _ _ (a .p) _ (s .pre .1 .1 .1 .1) (w .put .ensures) _ _ (g .write-gains .ensures) in
-    ((i .bins, i .few, i .rows, i .vectors), (s .pre .1 .0 .0, (s .pre .1 .1 .1 .0, r)))
-
-same-length : tie.Need-same-length
-same-length c = search needs
+    let r = bins-room (a .mode) (now (a .gains)) (now (a .row)) (now (a .x)) (a .start) (a .end) (s .pre .0 .row-ok .few) (s .pre .1 .0) (now (a .out)) (a .p) (s .pre .1 .1 .1) _ _ (w .put .ensures) _ _
+    (g .write-gains .ensures) in
+    (s .pre .0 .row-ok, (s .pre .0 .vectors, (s .pre .1 .1 .0, r)))
 
 returns : tie.Need-returns
 returns c =
@@ -44,14 +38,9 @@ returns c =
     let w = g .before .before .before .before in
     let s = w .before .before .before .before .before .before .before in
     let a = s .args in
-    field-put (a .mode) (now (a .gains)) (now (a .row)) (now (a .x)) (a .start) (a .end) (s .pre .0) (s .pre .1 .0) (s .pre .1 .1 .0) _ _ (a .p) _ (s .pre .1 .1 .1 .1) (w .put .ensures) _ _ (g .write-gains .ensures) _ _ (b .write-bins .ensures)
+    field-put (a .mode) (now (a .gains)) (now (a .row)) (now (a .x)) (a .start) (a .end) (s .pre .0 .row-ok .few) (s .pre .1 .0) (now (a .out)) (a .p) (s .pre .1 .1 .1) _ _ (w .put .ensures) _ _
+    (g .write-gains .ensures) _ _ (b .write-bins .ensures)
 
 pub write-field-spec : {M : Type 1} → statement M
 write-field-spec =
-    tie.close
-    (tie.spec
-    put-requires
-    write-gains-requires
-    write-bins-requires
-    same-length
-    returns)
+    tie.close (tie.spec put-requires write-gains-requires write-bins-requires (λ c. search needs) returns)

@@ -3,12 +3,11 @@ use native.Mathlib.Omega.{arith}
 use borrow.Author.Needs.{needs}
 use denote.Ref.{now}
 use Rattle.tables.proofs.Rules.{vq-most}
-use Rattle.writer.proofs.Items.{search-few}
+use Rattle.writer.proofs.Words.{search-few}
+use Rattle.bits.specs.Format.{number}
+use Rattle.bits.proofs.Laws.{length-bitsN}
 use Rattle.writer.proofs.write_index.Statement.{statement}
 use Rattle.writer.proofs.write_index.Tie as tie
-
-search-in-requires : tie.Need-search-in-requires
-search-in-requires c κs = search needs
 
 cast-put : tie.Need-cast-put
 cast-put c =
@@ -17,23 +16,16 @@ cast-put c =
     let e = c .before .search-in .ensures in
     search needs
 
-vq-bits-requires : tie.Need-vq-bits-requires
-vq-bits-requires c κs = search needs
-
-cast-put-2 : tie.Need-cast-put-2
-cast-put-2 c = search needs
-
 put-requires : tie.Need-put-requires
+unfolding number
 put-requires c κs =
     let s = c .before .before .before .before .before .before in
     let m = vq-most (s .args .hebap) in
     let e = c .vq-bits .ensures in
-    (omega arith, rw e (s .pre .1 .1 .1))
-
-same-length : tie.Need-same-length
-same-length c = search needs
+    (omega arith, rw (length-bitsN, e) (rw length-bitsN at (s .pre .1 .1 .1)))
 
 returns : tie.Need-returns
+unfolding number
 returns c =
     let p = c .before .before in
     let v = p .before in
@@ -42,11 +34,5 @@ returns c =
 pub write-index-spec : {M : Type 1} → statement M
 write-index-spec =
     tie.close
-    (tie.spec
-    search-in-requires
-    cast-put
-    vq-bits-requires
-    cast-put-2
-    put-requires
-    same-length
-    returns)
+    (tie.spec (λ c κs. search needs) cast-put (λ c κs. search needs) (λ c. search needs) put-requires
+    (λ c. search needs) returns)

@@ -1,6 +1,7 @@
 -- `bitreader::BitReader::moved` meets its contract. Assumes nothing.
 -- A walk of its MIR, by hand: a struct is made anew of the slice that the one passed holds, and another position.
--- The struct is Copy: what it owns is had twice, once for the exit and once for the result, there with the new position's facts for the old one's.
+-- The struct is Copy: what it owns is had twice, once for the exit and once for the result, there with the new
+-- position's facts for the old one's.
 use mathlib.Core.Path.{refl}
 use mathlib.Core.List.{[], _∷_}
 use lib.Dec.{T as Holds}

@@ -1,6 +1,7 @@
 -- `bitreader::BitReader::read_u32` meets its contract. Assumes nothing.
--- A walk of its MIR, by hand: the struct is taken apart, and `bits::BitPos::read_u32` is called, of which the proof knows its contract alone.
--- The struct is Copy: what it owns is had twice, once for the exit and once for the callee. The lifetime's token goes to the callee and comes back.
+-- A walk of its MIR, by hand: the struct is taken apart, and `bits::BitPos::read_u32` is called, of which the proof
+-- knows its contract alone. The struct is Copy: what it owns is had twice, once for the exit and once for the callee.
+-- The lifetime's token goes to the callee and comes back.
 use mathlib.Core.Path.{_≡_, refl}
 use Prim.Native.Nat.{ℕ, _<_, _^_}
 use mathlib.Core.List.{[], _∷_}

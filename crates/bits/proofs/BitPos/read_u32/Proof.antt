@@ -1,4 +1,4 @@
--- `bits::BitPos::read_u32` meets its contract: at each `return` the tests that led there say which case of the definition holds. Assumes nothing.
+-- `bits::BitPos::read_u32` meets its contract: the tests before each `return` say which case holds. Assumes nothing.
 use Prim.Native.Nat.{_+_, _*_, _≤_, _<_}
 use mathlib.Core.Path.{_≡_, sym, _∙_}
 use borrow.Author.Tests.{leb-true, leb-false}
@@ -10,30 +10,22 @@ use native.Mathlib.Omega.{arith}
 use borrow.Author.Needs.{needs}
 use Rattle.bits.proofs.BitPos.read_u32.Statement.{statement}
 use Rattle.bits.proofs.BitPos.read_u32.Tie as tie
-use Rattle.bits.proofs.BitPos.read_u32.Reads as reads
-use Rattle.bits.proofs.BitPos.read_u32.Lts as lts
-use Rattle.bits.proofs.BitPos.after.Reads as after-reads
-use Rattle.bits.proofs.BitPos.holds.Reads as holds-reads
-use Rattle.bits.proofs.BitPos.number.Reads as number-reads
 
 -- what the test of `holds` says of the position
 fits : (c : tie.Then2) → let a = c .before .before .before .before .args in bitAt (a .self) + a .n ≤ 8 * length (now (a .src))
 fits c =
     let a = c .before .before .before .before .args in
-    let h : bitAt (a .self) + 1 * a .n ≤ 8 * length (now (a .src)) = leb-true _ _ (sym (c .before .holds .ensures) ∙ c .if2 .taken) in
+    let h : bitAt (a .self) + 1 * a .n ≤ 8 * length (now (a .src)) = leb-true _ _ (sym (c .before .has-bits .ensures) ∙ c .if2 .taken) in
     omega arith
 
 returns : tie.Need-returns
 returns c = sym (read-wide _ _ _ (c .if1 .taken))
 
-holds-requires : tie.Need-holds-requires
-holds-requires c κs = search needs
+peek-requires : tie.Need-peek-requires
+peek-requires c κs = let h = fits c in search needs
 
-number-requires : tie.Need-number-requires
-number-requires c κs = let h = fits c in search needs
-
-after-requires : tie.Need-after-requires
-after-requires c κs = let h = fits (c .before) in search needs
+advance-requires : tie.Need-advance-requires
+advance-requires c κs = let h = fits (c .before) in search needs
 
 returns-2 : tie.Need-returns-2
 returns-2 c =
@@ -45,16 +37,8 @@ returns-2 c =
 returns-3 : tie.Need-returns-3
 returns-3 c =
     let a = c .before .before .before .before .args in
-    let h : 8 * length (now (a .src)) < bitAt (a .self) + 1 * a .n = leb-false _ _ (sym (c .before .holds .ensures) ∙ c .if2 .left) in
+    let h : 8 * length (now (a .src)) < bitAt (a .self) + 1 * a .n = leb-false _ _ (sym (c .before .has-bits .ensures) ∙ c .if2 .left) in
     sym (read-short _ _ _ (omega arith) (omega arith))
 
 pub read-u32-spec : {M : Type 1} → statement M
-read-u32-spec =
-    tie.close
-    (tie.spec
-    returns
-    holds-requires
-    number-requires
-    after-requires
-    returns-2
-    returns-3)
+read-u32-spec = tie.close (tie.spec returns (λ c κs. search needs) peek-requires advance-requires returns-2 returns-3)

@@ -1,4 +1,4 @@
--- `bits::BitPos::write_u32` meets its contract: at each `return` the tests that led there say which case of the definition holds. Assumes nothing.
+-- `bits::BitPos::write_u32` meets its contract: the tests before each `return` say which case holds. Assumes nothing.
 use Prim.Native.Nat.{_+_, _*_, _/_, _%_, _≤_, _<_}
 use mathlib.Core.Path.{_≡_, sym, _∙_}
 use borrow.Author.Tests.{leb-true, leb-false}
@@ -10,27 +10,16 @@ use native.Mathlib.Omega.{arith}
 use borrow.Author.Needs.{needs}
 use Rattle.bits.proofs.BitPos.write_u32.Statement.{statement}
 use Rattle.bits.proofs.BitPos.write_u32.Tie as tie
-use Rattle.bits.proofs.BitPos.write_u32.Reads as reads
-use Rattle.bits.proofs.BitPos.write_u32.Lts as lts
-use Rattle.bits.proofs.BitPos.after.Reads as after-reads
-use Rattle.bits.proofs.BitPos.holds.Reads as holds-reads
-use Rattle.bits.proofs.put_bits.Reads as put-bits-reads
 
 -- what the test of `holds` says of the position
 fits : (c : tie.Then2) → let a = c .before .before .before .before .args in bitAt (a .self) + a .n ≤ 8 * length (now (a .out))
 fits c =
     let a = c .before .before .before .before .args in
-    let h : bitAt (a .self) + 1 * a .n ≤ 8 * length (now (a .out)) = leb-true _ _ (sym (c .before .holds .ensures) ∙ c .if2 .taken) in
+    let h : bitAt (a .self) + 1 * a .n ≤ 8 * length (now (a .out)) = leb-true _ _ (sym (c .before .has-bits .ensures) ∙ c .if2 .taken) in
     omega arith
 
 returns : tie.Need-returns
 returns c = let e = write-wide (now (c .before .before .args .out)) (bitAt (c .before .before .args .self)) (c .before .before .args .v) (c .before .before .args .n) (c .if1 .taken) in (sym (e .0), sym (e .1))
-
-holds-requires : tie.Need-holds-requires
-holds-requires c κs = search needs
-
-cast-q : tie.Need-cast-q
-cast-q c = search needs
 
 add-q : tie.Need-add-q
 add-q c = let h = fits c in search needs
@@ -38,11 +27,8 @@ add-q c = let h = fits c in search needs
 put-bits-requires : tie.Need-put-bits-requires
 put-bits-requires c κs = let h = fits (c .before) in search needs
 
-after-requires : tie.Need-after-requires
-after-requires c κs = let h = fits (c .before .before .before .before) in search needs
-
-same-length : tie.Need-same-length
-same-length c = search needs
+advance-requires : tie.Need-advance-requires
+advance-requires c κs = let h = fits (c .before .before .before .before) in search needs
 
 returns-2 : tie.Need-returns-2
 returns-2 c =
@@ -60,20 +46,12 @@ returns-2 c =
 returns-3 : tie.Need-returns-3
 returns-3 c =
     let a = c .before .before .before .before .args in
-    let h : 8 * length (now (a .out)) < bitAt (a .self) + 1 * a .n = leb-false _ _ (sym (c .before .holds .ensures) ∙ c .if2 .left) in
+    let h : 8 * length (now (a .out)) < bitAt (a .self) + 1 * a .n = leb-false _ _ (sym (c .before .has-bits .ensures) ∙ c .if2 .left) in
     let e = write-short (now (a .out)) (bitAt (a .self)) (a .v) (a .n) (omega arith) (omega arith) in
     (sym (e .0), sym (e .1))
 
 pub write-u32-spec : {M : Type 1} → statement M
 write-u32-spec =
     tie.close
-    (tie.spec
-    returns
-    holds-requires
-    cast-q
-    add-q
-    put-bits-requires
-    after-requires
-    same-length
-    returns-2
-    returns-3)
+    (tie.spec returns (λ c κs. search needs) (λ c. search needs) add-q put-bits-requires advance-requires
+    (λ c. search needs) returns-2 returns-3)

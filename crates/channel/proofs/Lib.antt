@@ -1,0 +1,9 @@
+pub mod Over
+pub mod Rows
+pub mod Codings
+pub mod Laws
+pub mod Parts
+pub mod Same
+pub mod Shown
+pub mod Most
+pub mod Fields

@@ -1,0 +1,4 @@
+pub mod Bins
+pub mod Row
+pub mod Field
+pub mod Shown

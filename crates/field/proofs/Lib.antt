@@ -1,9 +1,0 @@
-pub mod Laws
-pub mod Bits
-pub mod Counts
-pub mod Same
-pub mod Lengths
-pub mod Most
-pub mod Pointwise
-pub mod Fields
-pub mod Words

@@ -1,1 +1,0 @@
-// The layout of a channel's field: definitions and laws alone.
