@@ -16,7 +16,8 @@ fn tally_mode(mode: u8, hebap: u8, c: Costs, bits: &mut [u32], used: &mut [u32],
     requires { ⌜ (mode ≤ 3) × FourModes (now bits) (now used) (now kept) ⌝ }
     requires { ⌜ Small (modeAt (now bits) (now used) (now kept) mode) ⌝ }
     requires { ⌜ (c .one ≤ 256) × (c .two ≤ 256) × (c .four ≤ 256) ⌝ }
-    ensures { λ r. ⌜ OneBinMore (λ i. eqb i mode) hebap c (modeAt (now (bits .entry)) (now (used .entry)) (now (kept .entry))) (modeAt (now (bits .exit)) (now (used .exit)) (now (kept .exit))) ⌝ }
+    ensures { λ r. ⌜ OneBinMore (λ i. eqb i mode) hebap c
+        (modeAt (now (bits .entry)) (now (used .entry)) (now (kept .entry))) (modeAt (now (bits .exit)) (now (used .exit)) (now (kept .exit))) ⌝ }
     ensures { λ r. ⌜ FourModes (now (bits .exit)) (now (used .exit)) (now (kept .exit)) ⌝ }
 {
     let m = mode as usize;
@@ -36,7 +37,8 @@ fn tally_bin(hebap: u8, c: Costs, bits: &mut [u32], used: &mut [u32], kept: &mut
     requires { ⌜ FourModes (now bits) (now used) (now kept) ⌝ }
     requires { ⌜ AllSmall (modeAt (now bits) (now used) (now kept)) ⌝ }
     requires { ⌜ (c .one ≤ 256) × (c .two ≤ 256) × (c .four ≤ 256) ⌝ }
-    ensures { λ r. ⌜ OneBinMore (λ i. true) hebap c (modeAt (now (bits .entry)) (now (used .entry)) (now (kept .entry))) (modeAt (now (bits .exit)) (now (used .exit)) (now (kept .exit))) ⌝ }
+    ensures { λ r. ⌜ OneBinMore (λ i. true) hebap c
+        (modeAt (now (bits .entry)) (now (used .entry)) (now (kept .entry))) (modeAt (now (bits .exit)) (now (used .exit)) (now (kept .exit))) ⌝ }
     ensures { λ r. ⌜ FourModes (now (bits .exit)) (now (used .exit)) (now (kept .exit)) ⌝ }
 {
     let mut mode: u8 = 0;

@@ -203,10 +203,14 @@ pub fn read_aht_channel(
     exact: &mut [i32],
     indices: &mut [u16],
 ) -> ChannelRead
-    ensures { λ r. ⌜ r ≡ answerTo (now (hebap .entry)) start end (call (now (src .entry)) (bitAt pos) (now (values .entry)) (now (exact .entry)) (now (indices .entry))) ⌝ }
-    ensures { λ r. ⌜ now (values .exit) ≡ valuesAfter (now (hebap .entry)) start end (call (now (src .entry)) (bitAt pos) (now (values .entry)) (now (exact .entry)) (now (indices .entry))) ⌝ }
-    ensures { λ r. ⌜ now (exact .exit) ≡ exactAfter (now (hebap .entry)) start end (call (now (src .entry)) (bitAt pos) (now (values .entry)) (now (exact .entry)) (now (indices .entry))) ⌝ }
-    ensures { λ r. ⌜ now (indices .exit) ≡ indicesAfter (now (hebap .entry)) start end (call (now (src .entry)) (bitAt pos) (now (values .entry)) (now (exact .entry)) (now (indices .entry))) ⌝ }
+    ensures { λ r. ⌜ r ≡ answerTo (now (hebap .entry)) start end
+        (call (now (src .entry)) (bitAt pos) (now (values .entry)) (now (exact .entry)) (now (indices .entry))) ⌝ }
+    ensures { λ r. ⌜ now (values .exit) ≡ valuesAfter (now (hebap .entry)) start end
+        (call (now (src .entry)) (bitAt pos) (now (values .entry)) (now (exact .entry)) (now (indices .entry))) ⌝ }
+    ensures { λ r. ⌜ now (exact .exit) ≡ exactAfter (now (hebap .entry)) start end
+        (call (now (src .entry)) (bitAt pos) (now (values .entry)) (now (exact .entry)) (now (indices .entry))) ⌝ }
+    ensures { λ r. ⌜ now (indices .exit) ≡ indicesAfter (now (hebap .entry)) start end
+        (call (now (src .entry)) (bitAt pos) (now (values .entry)) (now (exact .entry)) (now (indices .entry))) ⌝ }
 {
     let mut gains = channel::no_gains();
     let mut vectors = [0i16; 5736];
