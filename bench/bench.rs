@@ -71,7 +71,7 @@ fn medians(turns: usize, mut theirs: impl FnMut(), mut ours: impl FnMut()) -> (f
     (mid(&mut a), mid(&mut b))
 }
 
-/// The Rust's own reading functions in the order of document 01.
+/// The Rust's own reading functions in the order of the layout.
 fn read_theirs(src: &[u8], row: &[u8], values: &mut [[f32; 6]]) {
     let mut br = BitReader::new(src);
     let mode = br.read_u32(2).unwrap() as u8;

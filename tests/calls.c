@@ -135,7 +135,7 @@ static void quantiser(void)
 
 static void channel(void)
 {
-    /* document 01's channel: 15 bits, 69 80 */
+    /* the channel of docs/FORMAT.md, Desk text: 15 bits, 69 80 */
     const uint8_t hebap[2] = {8, 0}, want[2] = {0x69, 0x80};
     const float x[12] = {0.25f, 0.0f, -0.25f, 0.0f, 0.0f, 0.0f};
     uint8_t mode = 9, gk[FATHRUGG_GAINS], field[2] = {0, 0};

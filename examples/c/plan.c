@@ -1,6 +1,6 @@
 /*
- * Plans the channel of document 01, writes its field and prints the plan as the desk does
- * (examples/document_01.plan). Then it reads the field back and compares. Exits with 0 if all went well, else with 1
+ * Plans the channel of docs/FORMAT.md, Desk text, writes its field and prints the plan as the desk does
+ * (examples/tie.plan). Then it reads the field back and compares. Exits with 0 if all went well, else with 1
  * and a word on standard error.
  *
  *   cc -std=c99 -Wall -Wextra -Werror -Iinclude examples/c/plan.c target/staticlib/libfathrugg.a -o target/plan

@@ -205,7 +205,7 @@ fn refused(random: &mut Random, all: &mut Tally) {
             }
         }
         let before = random.bytes(len);
-        // cause 6 is looked up by document 01's words: mode, count, gains, payload
+        // cause 6 is looked up by the words of docs/FORMAT.md: mode, count, gains, payload
         let mut number = cause(&row, start, end, &x);
         let mut field = None;
         if number == 0 {
@@ -230,7 +230,7 @@ fn refused(random: &mut Random, all: &mut Tally) {
     t.close(all);
 }
 
-/// The Rust's plan where ours fits by document 01's words.
+/// The Rust's plan where ours fits by the words of docs/FORMAT.md.
 fn fitting(plan: &ours::Plan, row: &[u8], start: usize, end: usize, x: &[f32]) -> Option<ahtenc::AhtChannelPlan> {
     if plan.mode > 3 {
         return None;

@@ -1,4 +1,4 @@
-//! The desk program against a second reading of document 01, Desk text: a parser written from that section alone,
+//! The desk program against a second reading of docs/FORMAT.md, Desk text: a parser written from that section alone,
 //! with the Rust's planner and writer behind it. Its words are the seed, the desk program and how many texts; or
 //! `expect`, and it prints what the desk has to print for the text on standard input.
 #![allow(dead_code)]

@@ -1,4 +1,4 @@
-//! Stand-in for the two types that the files of the Rust take from elsewhere, written from document 01:
+//! Stand-in for the two types that the files of the Rust take from elsewhere, written from docs/FORMAT.md, Bits:
 //! read_u32(n) takes the next n bits as an unsigned number, first bit heaviest, or fails if fewer remain;
 //! write_u32(v, n) puts the low n bits of v likewise. Both work on whole bytes.
 

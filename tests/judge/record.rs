@@ -1,7 +1,7 @@
 //! The recorded answers that crates/replay and crates/replay_channels replay: calls with what the Rust answers, 256
 //! bytes each, least significant byte first. Their files stdin were made by `tests/compare ../shared/docs/src
-//! 20261115 record`. read_u32, read_first and write_u32 are the stand-in's answers, read_aht_channel's those of the
-//! Rust's reading functions in the order of document 01 (shown.rs); the numbers of refusals are document 01's.
+//! 20261115 record`. read_u32, read_three and write_u32 are the stand-in's answers, read_aht_channel's those of the
+//! Rust's reading functions in the order of the layout (shown.rs); the numbers of refusals are those of docs/FORMAT.md.
 //!
 //! 0 function, 1 refusal, 2 to 5 small arguments, 6 length of the input, 7 places of the output, 8 position's byte (8
 //! bytes), 16 its bit (4), 20 a number of 32 bits, 24 one of 64, 32 the input (24), 56 the output before (24), 80 the
@@ -122,8 +122,8 @@ fn one(f: u8, i: usize, random: &mut Random) -> Record {
     let at = random.below(8 * len + 3);
     let over = if i % 7 == 0 { random.below(4) } else { 0 };
     match f {
-        // read_u32, read_first
-        1 | 17 => {
+        // read_u32
+        1 => {
             let n = random.below(35) as u32;
             let r = Record::new(f).src(&src).at(at, over).arg32(n);
             if n > 32 {
@@ -133,6 +133,24 @@ fn one(f: u8, i: usize, random: &mut Random) -> Record {
                 Ok(v) => r.answer(0, v as usize, at + n as usize),
                 Err(_) => r.answer(8, 0, at),
             }
+        }
+        // read_three: one reader for three numbers, whose widths are the small arguments; they stand at 80
+        17 => {
+            let widths: [u8; 3] = core::array::from_fn(|_| random.below(if i % 5 == 0 { 35 } else { 25 }) as u8);
+            let mut r = Record::new(f).src(&src).at(at, over).args(&widths);
+            let mut reader = BitReader::at(&src, at);
+            let mut numbers = [0; 12];
+            for (place, n) in numbers.chunks_exact_mut(4).zip(widths) {
+                if n > 32 {
+                    return r.answer(12, 0, at);
+                }
+                match reader.as_mut().map_err(|e| *e).and_then(|b| b.read_u32(n.into())) {
+                    Ok(v) => place.copy_from_slice(&v.to_le_bytes()),
+                    Err(_) => return r.answer(8, 0, at),
+                }
+            }
+            r.0[80..92].copy_from_slice(&numbers);
+            r.answer(0, 0, reader.unwrap().taken())
         }
         // write_u32
         2 => {

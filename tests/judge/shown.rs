@@ -1,6 +1,7 @@
-//! What the Rust makes of a field: its own reading functions in the order of document 01 (Channel reader), with the
-//! strictness that document 01 adds (words above 26 and missing codes), and the exact values by document 01's
-//! formulas from the codes that stand in the field. The numbers a and b are taken from the Rust's gaq_remap.
+//! What the Rust makes of a field: its own reading functions in the order of the layout (docs/FORMAT.md, Channel
+//! reader), with the strictness of the channel reader (words above 26 and missing codes), and the exact values by the
+//! formulas of docs/FORMAT.md from the codes that stand in the field. The numbers a and b are taken from the Rust's
+//! gaq_remap.
 use crate::eac3::aht;
 use oxideav_core::bits::BitReader;
 
@@ -71,7 +72,7 @@ fn gain_codes(src: &[u8], br: &mut BitReader, mode: u8, active: usize) -> Result
     Ok(codes)
 }
 
-/// The exact values of the six codes that stand at a bit position, in units of 2^-30: document 01, Levels.
+/// The exact values of the six codes that stand at a bit position, in units of 2^-30: docs/FORMAT.md, Levels.
 fn exact_values(src: &[u8], at: usize, hebap: u8, gk: u8) -> [i32; 6] {
     let m = u32::from(aht::HEBAP_MANT_BITS[hebap as usize]);
     let q15 = |y: f32| (y * 32768.0) as i64;

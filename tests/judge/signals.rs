@@ -6,7 +6,7 @@ pub fn book_size(hebap: u8) -> usize {
     if (1..=7).contains(&hebap) { 1 << aht::VQ_BITS[hebap as usize] } else { 0 }
 }
 
-/// Document 01's cause 5.
+/// Cause 5 of docs/FORMAT.md.
 pub fn outside(x: f32) -> bool {
     !(x.abs() <= 1024.0)
 }

@@ -134,7 +134,7 @@ fn written_and_read(p: &Plan, row: &[u8], start: usize, end: usize, x: &[f32], a
 }
 
 #[test]
-fn document_01() {
+fn tie() {
     let row = [8, 0];
     let x = [0.25, 0.0, -0.25, 0.0, 0.0, 0.0, 0.0, 0.0, 0.0, 0.0, 0.0, 0.0];
     let p = plan(&row, 0, 2, &x).unwrap();

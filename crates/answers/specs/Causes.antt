@@ -1,4 +1,4 @@
--- Why a call refuses, by name: the numbers of document 01, 'Causes and refusals'.
+-- Why a call refuses, by name: the numbers of docs/FORMAT.md, Causes and refusals.
 use Prim.Native.Nat.{ℕ}
 
 -- no cause holds

@@ -1,1 +1,3 @@
 pub mod Held
+pub mod Lent
+pub mod Answers

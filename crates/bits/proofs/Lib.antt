@@ -5,3 +5,4 @@ pub mod Faithful
 pub mod Sized
 pub mod Reading
 pub mod Copying
+pub mod Refusals

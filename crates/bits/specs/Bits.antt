@@ -1,4 +1,4 @@
--- The bits of numbers and of bytes, most significant first; read_u32 and write_u32 of document 01 (Bits).
+-- The bits of numbers and of bytes, most significant first; read_u32 and write_u32 of docs/FORMAT.md, Bits.
 use Prim.Native.Nat.{ℕ, zero, suc, _+_, _*_, _/_, _%_, _^_, _≤_, _<_}
 use mathlib.Core.List.{List, [], _∷_, _++_}
 use mathlib.Core.Bool.{Bool, true, false, cond}

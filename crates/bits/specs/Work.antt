@@ -1,5 +1,5 @@
--- Steps of write_u32 and of loops that read: no meaning of their own. The laws that join them to Bits and Format are `write-next`
--- (proofs/Laws.antt) and `resume-next` (proofs/Lawful.antt).
+-- Steps of write_u32 and of loops that read: no meaning of their own. The laws that join them to Bits and Format are
+-- `write-next` (proofs/Laws.antt) and `resume-next` (proofs/Lawful.antt).
 use Prim.Native.Nat.{ℕ, _+_, _-_, _*_, _/_, _%_, _^_}
 use mathlib.Core.List.{List, _++_}
 use Rattle.bits.specs.Format.{Got, got, refused}

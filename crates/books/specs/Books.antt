@@ -1,5 +1,5 @@
 -- The vector quantiser: looking a vector up, and the search for the nearest one.
--- Document 01, Books; ATSC A/52 Annex E, 3.4.4.1, Tables E4.1 to E4.7.
+-- docs/FORMAT.md, Books; ATSC A/52 Annex E, 3.4.4.1, Tables E4.1 to E4.7.
 use Prim.Native.Nat.{ℕ, zero, suc, _+_, _*_, _%_, _^_, _<_}
 use mathlib.Core.Path.{_≡_}
 use mathlib.Core.Bool.{Bool, true, false, cond, _&&_}
@@ -39,7 +39,7 @@ exactEntry e = e *ℤ pos (2 ^ 15)
 unfoldable pub vqLookup : ℕ → ℕ → List Float
 vqLookup h i = cond (hasBook h) (sixAt (book h) (i % 2 ^ vqBits h * 6)) (replicate 6 f0)
 
--- their exact values, in units of 2 ^ -30: entry × 2 ^ 15. Document 01, Channel reader
+-- their exact values, in units of 2 ^ -30: entry × 2 ^ 15. docs/FORMAT.md, Channel reader
 unfoldable pub exactsAt : List ℤ → ℕ → List ℤ
 exactsAt b a = sixBy exactEntry b a
 

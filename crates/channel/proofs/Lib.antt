@@ -7,3 +7,5 @@ pub mod Same
 pub mod Shown
 pub mod Most
 pub mod Fields
+pub mod GroupRefusals
+pub mod Refusals

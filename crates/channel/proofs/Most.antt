@@ -12,12 +12,12 @@ use Rattle.bits.specs.Format.{Format, number, only, each, each-Ok, each-enc}
 use Rattle.bits.proofs.Laws.{length-bitsN}
 use Rattle.bits.proofs.Sized.{Sized, number-sized, both-sized, tested-sized, each-sized, sizes-same}
 use Rattle.tables.specs.Tables.{mantBits, vqBits}
-use Rattle.tables.proofs.Rules.{mant-bits, vq-most}
+use Rattle.tables.proofs.Rules.{mant-bits, mant-active, vq-most}
 use Rattle.gains.specs.Gains.{wordBits, sections, gainWordBits}
 use Rattle.levels.specs.declared.Code.{Code}
 use Rattle.levels.specs.Codes.{smallBits, largeBits, codeBits}
 use Rattle.levels.proofs.CodeLaws.{coded-sized}
-use Rattle.levels.proofs.Signed.{small-width, large-width}
+use Rattle.levels.proofs.Signed.{small-width}
 use Rattle.channel.specs.Bins.{from, sumOver}
 use Rattle.channel.specs.Row.{activeCount}
 use Rattle.channel.specs.Field.{gainBit, grpgain, packed, groupWords, gainWords, Bin, Item, ofCodes, Coder, item, binOf, binAt, Channel, fieldBy}
@@ -26,7 +26,7 @@ use Rattle.channel.proofs.Over.{sum-none, sum-first}
 use Rattle.channel.proofs.Rows.{count-most}
 use Rattle.channel.proofs.Laws.{CoderLaws, by-mode}
 use Rattle.channel.proofs.Parts.{Parts, parts}
-use Rattle.channel.proofs.Same.{by-bin}
+use Rattle.channel.proofs.Same.{Scalar, by-bin}
 
 -- ---- gain words
 groupWord-sized : Sized grpgain (λ w. 5)
@@ -66,11 +66,12 @@ either-most : (t : Bool) (a b n : ℕ) → a ≤ n → b ≤ n → cond t a b �
 either-most true a b n h k = h
 either-most false a b n h k = k
 
-words-most : (mode n : ℕ) → gainWordBits mode n ≤ 5 * n
+-- mode 3 has the most
+words-most : (mode n : ℕ) → gainWordBits mode n ≤ 5 * ((n + 2) / 3)
 unfolding gainWordBits wordBits sections
 words-most mode n = go (eqb mode 3) (eqb mode 0)
   where
-    go : (t z : Bool) → cond t 5 1 * cond z 0 (cond t ((n + 2) / 3) n) ≤ 5 * n
+    go : (t z : Bool) → cond t 5 1 * cond z 0 (cond t ((n + 2) / 3) n) ≤ 5 * ((n + 2) / 3)
     go true true = omega arith
     go true false = omega arith
     go false true = omega arith
@@ -99,27 +100,30 @@ each-most F m (r ∷ rs) (x ∷ xs) f o =
     le-trans (le-of-eq (length-append (F r .enc x) (each-enc F rs xs))) (omega arith)
 
 module _ (F : Coder) (laws : CoderLaws F) where
-  code-most : (h g : ℕ) → 8 ≤ h → h ≤ 19 → (c : Code) → F h g .Ok c → length (F h g .enc c) ≤ 32
-  code-most h g l u c o =
-      let m = mant-bits h l u in
-      le-trans (le-of-eq (ap length (laws .alike h g c) ∙ coded-sized (mantBits h) g c (laws .among h g c o))) (few (m .0) (m .1) c)
+  -- a code has at most 20 bits: the tag and l at hebap 16
+  code-most : (h g : ℕ) → Scalar h g → (c : Code) → F h g .Ok c → length (F h g .enc c) ≤ 20
+  code-most h g a c o =
+      let m = mant-bits h (a .0) (a .1) in
+      le-trans (le-of-eq (ap length (laws .alike h g c) ∙ coded-sized (mantBits h) g c (laws .among h g c o))) (few (m .0) (m .1) (a .2) c)
     where
-      few : 3 ≤ mantBits h → mantBits h ≤ 16 → (c : Code) → codeBits (mantBits h) g c ≤ 32
-      few l u (Code.Small s) = omega (arith, small-width (mantBits h) g l u .1)
-      few l u (Code.Large n) =
-          let s = small-width (mantBits h) g l u in
-          let k = large-width (mantBits h) g l u in
-          either-most (eqb g 1) (mantBits h) (smallBits (mantBits h) g + largeBits (mantBits h) g) 32 (omega arith) (omega arith)
+      both : (t : Bool) → mantBits h ≤ 11 → cond t (mantBits h - 1) (mantBits h - 2) + cond t (mantBits h - 1) (mantBits h) ≤ 20
+      both true u = omega arith
+      both false u = omega arith
 
-  item-most : (mode h g : ℕ) (x : Item) → item F (binOf mode h g) .Ok x → length (item F (binOf mode h g) .enc x) ≤ 192
+      few : 3 ≤ mantBits h → mantBits h ≤ 16 → (g ≡ 1) ⊎ (h ≤ 16) → (c : Code) → codeBits (mantBits h) g c ≤ 20
+      few l u k (Code.Small s) = omega (arith, small-width (mantBits h) g l u .1)
+      few l u (inl e) (Code.Large n) = rw e (omega arith)
+      few l u (inr k) (Code.Large n) = either-most (eqb g 1) (mantBits h) (smallBits (mantBits h) g + largeBits (mantBits h) g) 20 (omega arith) (both (eqb g 2) (mant-active h (a .0) k))
+
+  item-most : (mode h g : ℕ) (x : Item) → item F (binOf mode h g) .Ok x → length (item F (binOf mode h g) .enc x) ≤ 120
   unfolding number
   item-most mode h g x =
-      by-bin (λ b. item F b .Ok x → length (item F b .enc x) ≤ 192) mode h g (λ o. omega arith)
+      by-bin (λ b. item F b .Ok x → length (item F b .enc x) ≤ 120) mode h g (λ o. omega arith)
       (λ l u o. le-trans (le-of-eq (length-bitsN (vqBits h) _)) (omega (arith, vq-most h)))
-      (λ g a o. each-most (λ (k : ℕ). F h g) 32 (replicate 6 0) (ofCodes x) (λ k c o. code-most h g (a .0) (a .1) c o) (o .0))
+      (λ g a o. each-most (λ (k : ℕ). F h g) 20 (replicate 6 0) (ofCodes x) (λ k c o. code-most h g a c o) (o .0))
 
-  bins-most : (b : ℕ → Bin) → ((k : ℕ) (x : Item) → item F (b k) .Ok x → length (item F (b k) .enc x) ≤ 192) → (k n : ℕ) (xs : List Item)
-      → each-Ok (item F) (from b k n) xs → length (each-enc (item F) (from b k n) xs) ≤ 192 * n
+  bins-most : (b : ℕ → Bin) → ((k : ℕ) (x : Item) → item F (b k) .Ok x → length (item F (b k) .enc x) ≤ 120) → (k n : ℕ) (xs : List Item)
+      → each-Ok (item F) (from b k n) xs → length (each-enc (item F) (from b k n) xs) ≤ 120 * n
   unfolding from each-Ok each-enc
   bins-most b f k zero xs o = omega arith
   bins-most b f k (suc n) [] o = absurd o
@@ -142,10 +146,10 @@ module _ (F : Coder) (laws : CoderLaws F) where
         let g = gainWords-sized (c .mode) n (p .mode-is) (c .gains) (p .gains-ok) in
         rw (length-append, m, length-append, g) (omega arith)
 
-    -- The field of up to 256 bins has at most 65,536 bits.
-    pub field-few : end ≤ 256 → length (fieldBy F row start end .enc c) ≤ 65536
+    -- The field of up to 256 bins has at most 31,152 bits: 2, 86 gain words of 5, and 120 for each bin.
+    pub field-most : end ≤ 256 → length (fieldBy F row start end .enc c) ≤ 31152
     unfolding binAt
-    field-few few =
+    field-most few =
         let n = activeCount (c .mode) row start end in
         let w = words-most (c .mode) n in
         let a = count-most (c .mode) row start end in

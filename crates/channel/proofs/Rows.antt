@@ -98,3 +98,15 @@ row-ok row start end short z =
     let d = none-of (someOver (unknownAt row) start end) 3 _ (c .1) in
     let r = neither (ltb (length row) end) short (c .0) in
     (record { ordered = ltb-false end start (a .0); few = ltb-false 256 end (b .0); rows = ltb-false (length row) end (r .0); known = d .0 }, r .1)
+
+-- they are 1 to 4
+pub row-cause-most : (row : List ℕ) (start end : ℕ) (short : Bool) → rowCause row start end short ≤ 4
+unfolding rowCause
+row-cause-most row start end short = go (ltb end start) (ltb 256 end) (ltb (length row) end || short) (someOver (unknownAt row) start end)
+  where
+    go : (a b c d : Bool) → cond a 1 (cond b 2 (cond c 3 (cond d 4 0))) ≤ 4
+    go true b c d = omega arith
+    go false true c d = omega arith
+    go false false true d = omega arith
+    go false false false true = omega arith
+    go false false false false = omega arith

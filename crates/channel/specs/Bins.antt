@@ -1,5 +1,5 @@
 -- What is gathered over the places start to end - 1, in rising order: of the bins of a row, or of the components of a
--- bin. Document 01, Planner and Writer ('bins in rising order').
+-- bin. docs/FORMAT.md, Planner and Writer ('bins in rising order').
 use Prim.Native.Nat.{ℕ, zero, suc, _+_, _-_}
 use mathlib.Core.Bool.{Bool, false, cond, _||_}
 use mathlib.Core.List.{List, [], _∷_}

@@ -2,3 +2,4 @@ pub mod Bins
 pub mod Row
 pub mod Field
 pub mod Shown
+pub mod Standing

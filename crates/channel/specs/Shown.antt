@@ -1,4 +1,4 @@
--- What a field shows: its mode, its gains, and of each bin six f32, six exact values and a book index. Document 01,
+-- What a field shows: its mode, its gains, and of each bin six f32, six exact values and a book index. docs/FORMAT.md,
 -- Words, Levels and Channel reader.
 use Prim.Native.Nat.{ℕ, _-_}
 use mathlib.Core.Bool.{Bool}

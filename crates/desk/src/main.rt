@@ -1,6 +1,5 @@
 // The desk: a channel as text on standard input, its plan as text on standard output. The work is desktext's.
-ghost use mathlib.Core.Path.{_≡_};
-ghost use Prim.Native.Nat.{min};
+ghost use Prim.Native.Nat.{_≤_};
 use libc::STDERR_FILENO;
 use libc::STDIN_FILENO;
 use libc::STDOUT_FILENO;
@@ -9,12 +8,6 @@ use libc::STDOUT_FILENO;
 pub enum Input {
     Bytes(usize),
     Failed,
-}
-
-fn least(a: usize, b: usize) -> usize
-    ensures { λ r. ⌜ r ≡ min a b ⌝ }
-{
-    if a < b { a } else { b }
 }
 
 // Reads until the buffer is full or the input ends.
@@ -34,22 +27,14 @@ fn read_input(buf: &mut [u8]) -> Input {
     Input::Bytes(done)
 }
 
-// The first n bytes of the output are the answer: never more than it has.
-fn print(out: &[u8; 32768], n: usize) {
+// The first n bytes of the output are the answer.
+fn print(out: &[u8; 32768], n: usize)
+    requires { ⌜ n ≤ 32768 ⌝ }
+{
     let all = &out[..];
-    let m = least(n, all.len());
-    if !io::write_all(STDOUT_FILENO, &all[..m]) {
+    if !io::write_all(STDOUT_FILENO, &all[..n]) {
         io::write_all(STDERR_FILENO, b"desk: standard output cannot be written\n");
     }
-}
-
-// The first n bytes of the input are the text: never more than it has.
-fn answer(input: &[u8; 65537], n: usize) {
-    let all = &input[..];
-    let m = least(n, all.len());
-    let mut out = [0u8; 32768];
-    let k = desktext::desk(&all[..m], &mut out);
-    print(&out, k);
 }
 
 // One byte more than a text may have: a longer text is refused without being held whole.
@@ -60,6 +45,10 @@ fn main() {
         Input::Failed => {
             io::write_all(STDERR_FILENO, b"desk: standard input cannot be read\n");
         }
-        Input::Bytes(n) => answer(&input, n),
+        Input::Bytes(n) => {
+            let mut out = [0u8; 32768];
+            let k = desktext::desk_from(&input, n, &mut out);
+            print(&out, k)
+        }
     }
 }

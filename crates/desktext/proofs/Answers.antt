@@ -1,13 +1,14 @@
 -- What the desk prints: the plan with the bytes of its field, or a refusal. Assumes nothing.
-use Prim.Native.Nat.{ℕ, zero, suc, _+_, _-_, _*_, _/_, _≤_}
+use Prim.Native.Nat.{ℕ, zero, suc, _+_, _-_, _*_, _/_, _≤_, _<_}
 use mathlib.Core.Path.{_≡_, refl, sym, ap, _∙_}
 use mathlib.Core.List.{List, _∷_, _++_, map, append-assoc}
-use mathlib.Core.Bool.{Bool}
+use mathlib.Core.Bool.{Bool, true, false, cond}
 use native.Mathlib.Omega.{arith}
-use native.Mathlib.Nat.{le-trans, le-of-eq, suc-add}
-use borrow.Author.Tests.{ne-eqb}
+use native.Mathlib.Nat.{le-trans, le-of-eq, suc-add, min-le-left}
+use borrow.Author.Tests.{ne-eqb, eqb-true}
+use lib.Dec.{eqb}
 use lib.Ieee.{Float}
-use lib.ListN.{length, take, drop, replicate, length-append, length-drop, length-map, length-replicate, replicate-append-replicate}
+use lib.ListN.{length, take, drop, replicate, length-append, length-take, length-drop, length-map, length-replicate, replicate-append-replicate}
 use lib.Seq.{take-append-le, drop-append-le}
 use Rattle.bits.specs.Bits.{numberOf, bitsOf, bytesOf, splice, posOf, bytesWith}
 use Rattle.bits.specs.declared.BitPos.{BitPos}
@@ -15,12 +16,14 @@ use Rattle.writer.specs.declared.ChannelWrite.{ChannelWrite}
 use Rattle.writer.specs.declared.ChannelWrite.the-variants.{Done}
 use Rattle.bits.proofs.Laws.{bitsOf-append, length-bitsOf, length-with, splice-read}
 use Rattle.planner.specs.Planning.{planned, totalOf}
+use Rattle.planner.proofs.Answer.{refusal-is, cause-most}
 use Rattle.planner.specs.declared.Plan.{Plan}
 use Rattle.planner.specs.declared.Planned.{Planned}
 use Rattle.writer.specs.Written.{fieldOf, channelWrite, channelWritten}
 use Rattle.writer.proofs.Call.{count-few}
 use Rattle.writer.proofs.Planned.{within, fits, field-long as long-field, few-bits as bits-few, is-written as field-written}
 use Rattle.plantext.specs.PlanText.{planText, refusedText}
+use Rattle.plantext.proofs.Printing.{plan-text-fits, refused-text-fits, plan-no-refusal, digit-not-13}
 use Rattle.desktext.specs.Printed.{componentOf}
 use Rattle.desktext.specs.Channel.{TextChannel, channel, none, channelIn, textAnswer, rowAfter, vectorsAfter}
 use Rattle.desktext.specs.Desk.{fieldBytes, planAnswer, channelAnswer, deskAnswer}
@@ -80,7 +83,7 @@ module _ (row : List ℕ) (start end : ℕ) (x : List Float) (r : Planned) (is :
     field-long : length (fieldOf p row start end x) ≡ totalOf p
     field-long = rw is (long-field row start end x planned-given)
 
-    pub few-bits : totalOf p ≤ 65536
+    pub few-bits : totalOf p ≤ 31152
     few-bits = rw is (bits-few row start end x planned-given)
 
     -- 8,192 bytes hold it
@@ -118,6 +121,44 @@ module _ (row : List ℕ) (start end : ℕ) (x : List Float) (r : Planned) (is :
             ap (take n) (put ∙ is-written .1 ∙ ap (λ (z : List ℕ). bytesWith z 0 bs) zeros)
             ∙ zeros-front 8192 n bs (omega arith) (omega arith) ∙ ap (λ (m : ℕ). bytesWith (replicate ((m + 7) / 8) 0) 0 bs) (sym l) in
             rw (sym is, given, b)
+
+-- ---- it is never (refused 13), and it fits the output
+module _ (row : List ℕ) (start end : ℕ) (x : List Float) where
+  pub plan-never-13 : planAnswer row start end x ≡ refusedText 13 → ⊥
+  unfolding planAnswer
+  plan-never-13 e = go (eqb (planned row start end x .refusal) 0) e
+    where
+      p : Plan
+      p = planned row start end x .plan
+
+      few : planned row start end x .refusal < 10
+      few = let h = cause-most row start end x in omega (arith, refusal-is row start end x)
+
+      go : (b : Bool) → cond b (planText p (fieldBytes (fieldOf p row start end x))) (refusedText (planned row start end x .refusal)) ≡ refusedText 13 → ⊥
+      go true f = plan-no-refusal p _ 13 f
+      go false f = digit-not-13 _ few f
+
+  pub plan-fits : length (planAnswer row start end x) ≤ 32768
+  unfolding planAnswer
+  plan-fits = go (eqb (planned row start end x .refusal) 0) refl
+    where
+      p : Plan
+      p = planned row start end x .plan
+
+      bs : List Bool
+      bs = fieldOf p row start end x
+
+      go : (b : Bool) → eqb (planned row start end x .refusal) 0 ≡ b → length (cond b (planText p (fieldBytes bs)) (refusedText (planned row start end x .refusal))) ≤ 32768
+      go true f =
+          let g = eqb-true (planned row start end x .refusal) 0 f in
+          let n = few-gains row start end x (planned row start end x) refl g in
+          let m = few-bits row start end x (planned row start end x) refl g in
+          let l = field-long row start end x (planned row start end x) refl g in
+          let t = min-le-left (p .count) (length (p .gains)) in
+          let w : length (fieldBytes bs) ≡ (length bs + 7) / 8 = length-with (replicate ((length bs + 7) / 8) 0) 0 bs ∙ length-replicate _ 0 in
+          let h = plan-text-fits p (fieldBytes bs) in
+          omega (arith, length-take (p .count) (p .gains))
+      go false f = let h = refused-text-fits (planned row start end x .refusal) in omega arith
 
 -- ---- the channel of a text
 module _ (s : List ℕ) (r : DeskText) (is : r ≡ textAnswer (channelIn s)) where

@@ -6,6 +6,8 @@ pub mod Outputs
 pub mod Spelt
 pub mod Back
 pub mod Texts
+pub mod Longest
 pub mod Component
 pub mod Answers
 pub mod Examples
+pub mod DeskPrints

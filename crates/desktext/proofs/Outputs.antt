@@ -10,13 +10,13 @@ use lib.ListN.{length, take, drop, set, getD, length-drop, length-append, length
 use lib.Seq.{take-all, take-suc, length-take-le, getD-drop, getD-append-add}
 use lib.Dec.{leb}
 use lib.Ieee.{Float}
-use borrow.Author.Tests.{le-leb, lt-leb, leb-true, leb-false}
+use borrow.Author.Tests.{le-leb, leb-true, leb-false}
 use Rattle.bits.specs.Bits.{splice}
 use Rattle.bits.proofs.Copying.{put-more}
 use Rattle.desktext.specs.Spelling.{lastNumber, largest}
 use Rattle.desktext.specs.Text.{tokens, got, malformed}
 use Rattle.desktext.specs.Channel.{part, vectors, TextChannel, none, channelFrom, channelIn, textAnswer, rowAfter, vectorsAfter}
-use Rattle.desktext.specs.Work.{vectorNumbers, listedIn, checkedIn, fitting, Checks}
+use Rattle.desktext.specs.Work.{longest, vectorNumbers, listedIn, checkedIn, fitting, Checks}
 use Rattle.desktext.specs.declared.Counted.{Counted}
 use Rattle.desktext.specs.declared.Counted.the-variants.{Count, Broken}
 use Rattle.desktext.specs.declared.Checked.{Checked}
@@ -97,17 +97,13 @@ pub same-outputs : (c d : TextChannel) (row : List ℕ) (vs : List Float) → c 
 same-outputs c d row vs e = (rw e, (rw e, rw e))
 
 -- the channel of a text by its cases
-pub channel-too-long : (s : List ℕ) → 65536 < length s → channelIn s ≡ none
+pub channel-broken : (s out : List ℕ) (r : Counted) → length s ≤ longest → listedIn s out r → r ≡ Broken → channelIn s ≡ none
 unfolding channelIn
-channel-too-long s h = rw (lt-leb (length s) 65536 h)
+channel-broken s out r h l e = let m : tokens s ≡ malformed = rw e at l in rw (le-leb (length s) 65536 (omega arith), m)
 
-pub channel-broken : (s out : List ℕ) (r : Counted) → length s ≤ 65536 → listedIn s out r → r ≡ Broken → channelIn s ≡ none
-unfolding channelIn
-channel-broken s out r h l e = let m : tokens s ≡ malformed = rw e at l in rw (le-leb (length s) 65536 h, m)
-
-pub channel-listed : (s out : List ℕ) (r : Counted) (n : ℕ) → length s ≤ 65536 → listedIn s out r → r ≡ Count n → (channelIn s ≡ channelFrom (take n out)) × (n ≤ length out)
+pub channel-listed : (s out : List ℕ) (r : Counted) (n : ℕ) → length s ≤ longest → listedIn s out r → r ≡ Count n → (channelIn s ≡ channelFrom (take n out)) × (n ≤ length out)
 unfolding channelIn
 channel-listed s out r n h l e =
     let m : (tokens s ≡ got (take n out)) × (n ≤ length out) = rw e at l in
     let g = m .0 in
-    (rw (le-leb (length s) 65536 h, g), m .1)
+    (rw (le-leb (length s) 65536 (omega arith), g), m .1)

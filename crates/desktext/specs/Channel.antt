@@ -1,4 +1,4 @@
--- A list of tokens read as a channel, and what read_text answers. Document 01, Desk text and cause 13.
+-- A list of tokens read as a channel, and what read_text answers. docs/FORMAT.md, Desk text and cause 13.
 -- The rules are those of specs/Printed.antt: law `text-read`.
 use Prim.Native.Nat.{ℕ, zero, suc, _+_, _-_}
 use mathlib.Core.List.{List, [], _∷_, _++_, map}

@@ -1,4 +1,4 @@
--- What the desk prints for a text. Document 01, Desk, Desk text and cause 13.
+-- What the desk prints for a text. docs/FORMAT.md, Desk text and cause 13.
 use Prim.Native.Nat.{ℕ, _+_, _/_}
 use mathlib.Core.Bool.{Bool, cond}
 use mathlib.Core.List.{List, map}

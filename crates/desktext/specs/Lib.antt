@@ -1,4 +1,4 @@
--- Spelling and Printed say what a text is, by the section Desk text of document 01; Text and Channel how it is read.
+-- Spelling and Printed say what a text is, by the section Desk text of docs/FORMAT.md; Text and Channel how it is read.
 pub mod Spelling
 pub mod Printed
 pub mod Text

@@ -1,4 +1,4 @@
--- A channel's tokens in order, the numbers that are allowed, and the texts of a channel. Document 01, Desk text.
+-- A channel's tokens in order, the numbers that are allowed, and the texts of a channel. docs/FORMAT.md, Desk text.
 use Prim.Native.Nat.{ℕ, zero, suc, _+_, _-_, _*_, _≤_}
 use mathlib.Core.Path.{_≡_}
 use mathlib.Core.Bool.{cond}

@@ -1,4 +1,4 @@
--- How a text is spelt: its tokens and their bytes. Document 01, Desk text.
+-- How a text is spelt: its tokens and their bytes. docs/FORMAT.md, Desk text.
 use Prim.Native.Nat.{ℕ, zero, suc, _+_, _-_, _*_, _≤_, _<_}
 use mathlib.Core.Path.{_≡_}
 use mathlib.Core.List.{List, [], _∷_, _++_}

@@ -1,4 +1,4 @@
--- A text read as tokens, byte by byte. Document 01, Desk text.
+-- A text read as tokens, byte by byte. docs/FORMAT.md, Desk text.
 -- The rules are those of specs/Spelling.antt: law `text-read`.
 use Prim.Native.Nat.{ℕ, zero, suc, _+_, _-_, _*_}
 use mathlib.Core.List.{List, [], _∷_, _++_}

@@ -17,6 +17,10 @@ use Rattle.desktext.specs.declared.Checked.{Checked}
 use Rattle.desktext.specs.declared.Checked.the-variants.{Sound, Unsound}
 
 -- ---- the bytes
+-- no text of a channel has more: law `text-short`
+abbrev pub longest : ℕ
+longest = 23121
+
 abbrev pub seenIn : List ℕ → Found → Seen
 seenIn s (At t q) = seen t (drop q s)
 seenIn s Absent = unseen

@@ -1,10 +1,11 @@
-// The desk text: a channel as nested brackets. Document 01, Desk text.
+// The desk text: a channel as nested brackets. docs/FORMAT.md, Desk text.
 ghost use Prim.Native.Nat.{_≤_, _*_};
 ghost use mathlib.Core.Path.{_≡_};
 ghost use lib.ListN.{length, take, replicate};
 ghost use Rattle.bits.specs.Bits.{splice};
 ghost use Rattle.desktext.specs.Channel.{channelIn, textAnswer, rowAfter, vectorsAfter};
 ghost use Rattle.desktext.specs.Desk.{planAnswer, deskAnswer};
+ghost use Rattle.desktext.specs.Work.{longest};
 use bits::BitPos;
 use writer::ChannelWrite;
 
@@ -59,14 +60,17 @@ const VECTOR: u32 = 33554436;
 
 const CLOSE: u32 = 33554437;
 
+// No channel's text is longer: it has 2,312 tokens of ten bytes at most, and a last line end.
+const LONGEST: usize = 23121;
+
 // A channel's text, with room to work in.
 fn read_with(text: &[u8], row: &mut [u8], vectors: &mut [f32], work: &mut [u32]) -> DeskText
-    requires { ⌜ (256 ≤ length (now row)) × (1536 ≤ length (now vectors)) × (65536 ≤ length (now work)) ⌝ }
+    requires { ⌜ (256 ≤ length (now row)) × (1536 ≤ length (now vectors)) × (longest ≤ length (now work)) ⌝ }
     ensures { λ r. ⌜ r ≡ textAnswer (channelIn (now (text .entry))) ⌝ }
     ensures { λ _. ⌜ now (row .exit) ≡ rowAfter (channelIn (now (text .entry))) (now (row .entry)) ⌝ }
     ensures { λ _. ⌜ now (vectors .exit) ≡ vectorsAfter (channelIn (now (text .entry))) (now (vectors .entry)) ⌝ }
 {
-    if 65536 < text.len() {
+    if LONGEST < text.len() {
         return DeskText::Refused(answers::TEXT);
     }
     let listed = tokens::tokens_in(text, &mut *work);
@@ -83,7 +87,7 @@ pub fn read_text(text: &[u8], row: &mut [u8; 256], vectors: &mut [f32; 1536]) ->
     ensures { λ r. ⌜ now (row .exit) ≡ rowAfter (channelIn (now (text .entry))) (now (row .entry)) ⌝ }
     ensures { λ r. ⌜ now (vectors .exit) ≡ vectorsAfter (channelIn (now (text .entry))) (now (vectors .entry)) ⌝ }
 {
-    let mut work = [0u32; 65536];
+    let mut work = [0u32; LONGEST];
     read_with(text, &mut *row, &mut *vectors, &mut work)
 }
 
@@ -177,4 +181,16 @@ pub fn desk(text: &[u8], out: &mut [u8; 32768]) -> usize
     let mut vectors = [0.0f32; 1536];
     let mut field = [0u8; 8192];
     desk_with(text, &mut *out, &mut row, &mut vectors, &mut field)
+}
+
+// The same of a text that is the first n bytes of an input, or all of it where it has no more. The answer fits.
+pub fn desk_from(input: &[u8], n: usize, out: &mut [u8; 32768]) -> usize
+    ensures { λ r. ⌜ r ≡ length (deskAnswer (take n (now (input .entry)))) ⌝ }
+    ensures { λ r. ⌜ now (out .exit) ≡ splice (now (out .entry)) 0 (deskAnswer (take n (now (input .entry)))) ⌝ }
+    ensures { λ r. ⌜ r ≤ 32768 ⌝ }
+{
+    if n < input.len() {
+        return desk(&input[..n], &mut *out);
+    }
+    desk(input, &mut *out)
 }

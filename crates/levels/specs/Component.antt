@@ -1,4 +1,4 @@
--- Which components of a vector are accepted. Document 01, cause 5.
+-- Which components of a vector are accepted. docs/FORMAT.md, cause 5.
 use Prim.Native.Nat.{ℕ, _*_}
 use mathlib.Core.Bool.{Bool, true, false, _||_}
 use mathlib.Core.List.{List, [], _∷_}

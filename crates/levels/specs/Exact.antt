@@ -1,5 +1,5 @@
 -- The exact value of a code, in units of 2 ^ -30: y = x + a x + b.
--- Document 01, Levels; ATSC A/52 Annex E, 3.4.4.2, Table E3.6.
+-- docs/FORMAT.md, Levels; ATSC A/52 Annex E, 3.4.4.2, Table E3.6.
 use Prim.Native.Nat.{ℕ, _-_, _^_}
 use mathlib.Core.Bool.{Bool, true, false, cond}
 use lib.Dec.{eqb}

@@ -13,7 +13,7 @@ use Rattle.levels.specs.Component.{someTooLarge}
 use Rattle.channel.specs.Bins.{someOver}
 use Rattle.channel.specs.Row.{noGains, sixOf, rowCause}
 use Rattle.channel.proofs.Over.{none-of}
-use Rattle.channel.proofs.Rows.{row-ok, cause-4-or-0, count-most}
+use Rattle.channel.proofs.Rows.{row-ok, cause-4-or-0, count-most, row-cause-most}
 use Rattle.planner.specs.Choice.{leastUpTo, leastOf, planMode, planGains, planPayload, choiceBits, Choice, gainsOver}
 use Rattle.planner.specs.Work.{modeAt, TalliesOf, payloadIn, Within}
 use Rattle.planner.specs.Planning.{tooLargeAt, refusalOf, planOf, causeOf, planned, totalOf, gainsOf}
@@ -108,6 +108,19 @@ module _ (row : List ℕ) (start end : ℕ) (x : List Float) where
           let r = row-ok row start end (ltb (length x) (6 * end)) (eqb-true k 0 q) in
           (record { row-ok = r .0; vectors = ltb-false (length x) (6 * end) (r .1) }, none-of (someOver (tooLargeAt row x) start end) 4 0 z .0)
       go false q z = absurd (eqb-false k 0 q z)
+
+  -- They are 1 to 5.
+  pub cause-most : causeOf row start end x ≤ 5
+  unfolding causeOf
+  cause-most = go (rowCause row start end (ltb (length x) (6 * end))) (row-cause-most row start end (ltb (length x) (6 * end))) (someOver (tooLargeAt row x) start end)
+    where
+      go : (k : ℕ) → k ≤ 4 → (t : Bool) → cond (eqb k 0) (cond t 5 0) k ≤ 5
+      go k h t = of (eqb k 0) t
+        where
+          of : (b t : Bool) → cond b (cond t 5 0) k ≤ 5
+          of true true = omega arith
+          of true false = omega arith
+          of false t = omega arith
 
 -- ---- the answer
 number-is : (k : ℕ) (p : Plan) → cond (eqb k 0) (record { refusal = 0; plan = p }) (refusalOf k) .refusal ≡ k

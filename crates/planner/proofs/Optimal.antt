@@ -143,7 +143,8 @@ least-le mode gains row x start k end c h l = go (active mode (getD row k 0)) re
         cheapest-le cost 1 (otherGains mode) (getD gains (activeCount mode row start k) 0) (c .allowed (activeCount mode row start k) (omega arith))
     go false q = le-refl _
 
-least-mode : (mode : ℕ) (gains row : List ℕ) (x : List Float) (start end : ℕ) → Choice mode gains row start end → leastOf row x start end mode ≤ payloadOf mode gains row x start end
+-- no choice of a mode has fewer bits than the mode's least
+pub least-mode : (mode : ℕ) (gains row : List ℕ) (x : List Float) (start end : ℕ) → Choice mode gains row start end → leastOf row x start end mode ≤ payloadOf mode gains row x start end
 unfolding leastOf payloadOf
 least-mode mode gains row x start end c =
     let s = sum-le (leastAt mode row x) (chosenAt mode gains row x start) start end (λ k h l. least-le mode gains row x start k end c h l) in

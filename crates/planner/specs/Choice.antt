@@ -1,5 +1,5 @@
--- A choice of a mode and gains, its bits, and the choice that the planner takes. Document 01, Words (a choice and its
--- bits) and Planner (equal cost takes the lower gain, then the lower mode; the total is 2 plus the payload).
+-- A choice of a mode and gains, its bits, and the choice that the planner takes. docs/FORMAT.md, Words (a choice and
+-- its bits) and Planner (equal cost takes the lower gain, then the lower mode; the total is 2 plus the payload).
 use Prim.Native.Nat.{ℕ, zero, suc, _+_, _<_, _≤_}
 use mathlib.Core.Path.{_≡_}
 use mathlib.Core.Bool.{true, cond}

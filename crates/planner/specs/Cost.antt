@@ -1,4 +1,4 @@
--- How many bits a bin takes, at the codes that the quantiser picks. Document 01, Planner: hebap 0 costs nothing,
+-- How many bits a bin takes, at the codes that the quantiser picks. docs/FORMAT.md, Planner: hebap 0 costs nothing,
 -- 1 to 7 VQ_BITS, 8 to 19 six codes.
 use Prim.Native.Nat.{ℕ}
 use mathlib.Core.Bool.{cond}

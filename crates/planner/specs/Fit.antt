@@ -1,4 +1,4 @@
--- When a choice, and a plan, fits a row and its vectors, best or not. Document 01, Writer, and cause 6.
+-- When a choice, and a plan, fits a row and its vectors, best or not. docs/FORMAT.md, Writer, and cause 6.
 use Prim.Native.Nat.{ℕ}
 use mathlib.Core.Bool.{Bool, not, _&&_}
 use mathlib.Core.List.{List}

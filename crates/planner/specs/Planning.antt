@@ -1,5 +1,5 @@
--- What plan_aht_channel answers: a plan, or a refusal. Document 01, Planner, 'Causes and refusals' (1 to 5, the lowest
--- number that holds), and Writer (gains as Gk in bin order, unused places 0).
+-- What plan_aht_channel answers: a plan, or a refusal. docs/FORMAT.md, Planner, 'Causes and refusals' (1 to 5, the
+-- lowest number that holds), and Writer (gains as Gk in bin order, unused places 0).
 use Prim.Native.Nat.{ℕ, _+_, _*_}
 use mathlib.Core.Bool.{Bool, cond, not, _&&_}
 use mathlib.Core.List.{List, _++_}

@@ -1,5 +1,5 @@
 -- What the planner works with on the way to Choice: the costs of a bin at each gain, and what it keeps of each mode.
--- Nothing here has a meaning of its own. Document 01, Planner.
+-- Nothing here has a meaning of its own. docs/FORMAT.md, Planner.
 use Prim.Native.Nat.{ℕ, _+_, _-_, _*_, _^_, _≤_, _<_}
 use mathlib.Core.Path.{_≡_}
 use mathlib.Core.Bool.{Bool, false, cond}

@@ -12,8 +12,9 @@ use lib.Dec.{leb}
 use borrow.Author.Tests.{le-leb, lt-leb}
 use Rattle.bits.specs.Bits.{splice}
 use Rattle.bits.proofs.Laws.{splice-none, splice-one, splice-more, length-splice}
+use Rattle.planner.specs.Planning.{totalOf, gainsOf}
 use Rattle.planner.specs.declared.Plan.{Plan}
-use Rattle.plantext.specs.PlanText.{decimal, numeral, hexOf, spaced, hexes, line, modeName, gainsName, payloadName, totalName, fieldName, choiceLines, sizeLines, planText, refusedText}
+use Rattle.plantext.specs.PlanText.{decimal, numeral, hexOf, spaced, hexes, line, modeName, gainsName, payloadName, totalName, fieldName, refusedName, choiceLines, sizeLines, planText, refusedText}
 
 -- w stands from a place on, within the list, and r is the place after it
 pub record Put (out : List ℕ) (at : ℕ) (w after : List ℕ) (r : ℕ) : Type 0 where
@@ -179,19 +180,45 @@ sizes-fit payload total =
     let k = number-line-fits totalName total in
     rw length-append (omega arith)
 
--- ---- the example of document 01
-sample : Plan
-sample = record { mode = 1; gains = 2 ∷ replicate 255 0; count = 1; payload = 13 }
+-- ---- the answers
+pub plan-text-fits : (p : Plan) (field : List ℕ) → length (planText p field) ≤ 82 + (11 * length (gainsOf p) + 3 * length field)
+unfolding planText
+plan-text-fits p field =
+    let h = choice-fits (p .mode) (gainsOf p) in
+    let k = sizes-fit (p .payload) (totalOf p) in
+    let l = field-line-fits field in
+    simp length-append (omega arith)
 
-sample-text : planText sample (0x69 ∷ 0x80 ∷ [])
-    ≡ 40 ∷ 112 ∷ 108 ∷ 97 ∷ 110 ∷ 10 ∷  -- (plan
+pub refused-text-fits : (n : ℕ) → length (refusedText n) ≤ 21
+unfolding refusedText
+refused-text-fits n = number-line-fits refusedName n
+
+-- their second bytes tell a plan from a refusal
+pub plan-no-refusal : (p : Plan) (field : List ℕ) (n : ℕ) → planText p field ≡ refusedText n → ⊥
+unfolding planText refusedText line
+plan-no-refusal p field n e = let z : _≡_ {A = ℕ} 112 114 = ap (λ (l : List ℕ). getD l 1 0) e in omega arith
+
+-- a number of one digit is not 13
+pub digit-not-13 : (n : ℕ) → n < 10 → refusedText n ≡ refusedText 13 → ⊥
+unfolding refusedText line spaced decimal
+digit-not-13 n h e = let z : _≡_ {A = ℕ} 12 13 = ap length (rw (lt-leb 10 n h) at e) in omega arith
+
+-- ---- the example of docs/FORMAT.md
+unfoldable pub samplePlan : Plan
+samplePlan = record { mode = 1; gains = 2 ∷ replicate 255 0; count = 1; payload = 13 }
+
+unfoldable pub sampleText : List ℕ
+sampleText =
+    40 ∷ 112 ∷ 108 ∷ 97 ∷ 110 ∷ 10 ∷  -- (plan
     40 ∷ 109 ∷ 111 ∷ 100 ∷ 101 ∷ 32 ∷ 49 ∷ 41 ∷ 10 ∷  -- (mode 1)
     40 ∷ 103 ∷ 97 ∷ 105 ∷ 110 ∷ 115 ∷ 32 ∷ 50 ∷ 41 ∷ 10 ∷  -- (gains 2)
     40 ∷ 112 ∷ 97 ∷ 121 ∷ 108 ∷ 111 ∷ 97 ∷ 100 ∷ 32 ∷ 49 ∷ 51 ∷ 41 ∷ 10 ∷  -- (payload 13)
     40 ∷ 116 ∷ 111 ∷ 116 ∷ 97 ∷ 108 ∷ 32 ∷ 49 ∷ 53 ∷ 41 ∷ 10 ∷  -- (total 15)
     40 ∷ 102 ∷ 105 ∷ 101 ∷ 108 ∷ 100 ∷ 32 ∷ 54 ∷ 57 ∷ 32 ∷ 56 ∷ 48 ∷ 41 ∷ 10 ∷  -- (field 69 80)
     41 ∷ 10 ∷ []  -- )
-unfolding planText choiceLines sizeLines line spaced decimal hexes hexOf sample
+
+pub sample-text : planText samplePlan (0x69 ∷ 0x80 ∷ []) ≡ sampleText
+unfolding planText choiceLines sizeLines line spaced decimal hexes hexOf samplePlan sampleText
 sample-text = refl
 
 -- (gains)

@@ -1,4 +1,4 @@
--- What the desk prints: document 01, 'Desk text'. Text is its bytes, with what they spell beside them.
+-- What the desk prints: docs/FORMAT.md, Desk text. Text is its bytes, with what they spell beside them.
 use Prim.Native.Nat.{ℕ, zero, suc, _+_, _/_, _%_}
 use mathlib.Core.Bool.{cond}
 use mathlib.Core.List.{List, [], _∷_, _++_}

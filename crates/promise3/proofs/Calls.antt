@@ -3,6 +3,7 @@ use Prim.Native.Nat.{ℕ, _+_, _-_, _*_, _≤_, _<_}
 use mathlib.Core.Path.{_≡_, refl, sym, ap, _∙_}
 use mathlib.Core.List.{List}
 use mathlib.Core.Bool.{Bool, true, false, cond}
+use mathlib.Core.Logic.{inl, inr}
 use native.Mathlib.Nat.{pos-of-ne-zero}
 use native.Mathlib.Omega.{arith}
 use borrow.Author.Tests.{eqb-false}
@@ -19,9 +20,9 @@ use Rattle.channel.proofs.Laws.{lenient-laws, field-lawful}
 use Rattle.channel.proofs.Parts.{Parts, parts}
 use Rattle.channel.proofs.Shown.{values-long, exacts-long, indices-long, values-at, exacts-at, index-at}
 use Rattle.channel.proofs.Fields.{field-used}
+use Rattle.channel.proofs.Refusals.{FieldWhy, field-why}
 use Rattle.reader.specs.Reading.{Call, readCause, found, answerTo, valuesAfter, exactAfter, indicesAfter, readAnswer, withShown}
 use Rattle.reader.proofs.Causes.{FoundAt, found-got}
-use Rattle.promise3.proofs.Refusals.{Numbered, field-numbered}
 use Rattle.promise3.proofs.Places.{one-place, six-place, padded}
 
 module _ (row : List ℕ) (start end : ℕ) (c : Call) where
@@ -37,13 +38,27 @@ module _ (row : List ℕ) (start end : ℕ) (c : Call) where
     pub rest : List Bool
     pub is : found row start end c ≡ got channel rest
 
+  -- no refusal has the number 0
+  abbrev Numbered : Got Channel → Type 0
+  Numbered (got ch rest) = Unit {0}
+  Numbered (refused k) = 1 ≤ k
+
+  field-numbered : Numbered (field row start end .dec bits)
+  field-numbered = go (field row start end .dec bits) (field-why row start end bits)
+    where
+      go : (t : Got Channel) → FieldWhy row start end bits t → Numbered t
+      go (got ch rest) y = tt
+      go (refused k) (inl y) = omega arith
+      go (refused k) (inr (inl (y, w))) = omega arith
+      go (refused k) (inr (inr (y, w))) = omega arith
+
   numbered : Numbered (found row start end c)
   unfolding found
   numbered = go (eqb (readCause row start end c) 0) refl (leb (c .at) (8 * length (c .src)))
     where
       go : (t : Bool) → eqb (readCause row start end c) 0 ≡ t → (b : Bool)
           → Numbered (cond t (cond b (field row start end .dec bits) (refused 8)) (refused (readCause row start end c)))
-      go true e true = field-numbered row start end bits
+      go true e true = field-numbered
       go true e false = omega arith
       go false e b = pos-of-ne-zero (eqb-false (readCause row start end c) 0 e)
 

@@ -15,15 +15,12 @@ use Rattle.bits.specs.Format.{got}
 use Rattle.bits.specs.declared.BitPos.{BitPos}
 use Rattle.channel.specs.Row.{noGains}
 use Rattle.channel.specs.Shown.{valuesShown, exactsShown, indicesShown}
-use Rattle.channel.proofs.Over.{none-there}
-use Rattle.channel.proofs.Rows.{known-hebap}
-use Rattle.planner.specs.Planning.{noPlan, tooLargeAt, causeOf, planOf, planned, totalOf, gainsOf}
+use Rattle.planner.specs.Planning.{noPlan, causeOf, planOf, planned, totalOf, gainsOf}
 use Rattle.planner.specs.declared.Plan.{Plan}
-use Rattle.planner.proofs.Answer.{cause-none, answer-plan, answer-fits}
+use Rattle.planner.proofs.Answer.{answer-plan, answer-fits}
 use Rattle.writer.specs.declared.ChannelWrite.{ChannelWrite}
 use Rattle.writer.specs.declared.ChannelWrite.the-variants.{Done}
 use Rattle.writer.specs.Written.{fieldOf, writtenOf, channelWrite, channelWritten}
-use Rattle.writer.proofs.Channel.{six-fine}
 use Rattle.writer.proofs.Call.{not-both, call-short}
 use Rattle.writer.proofs.Planned.{is-written}
 use Rattle.reader.specs.Reading.{Call, call, readCause, found, answerTo, valuesAfter, exactAfter, indicesAfter, withShown}
@@ -33,6 +30,7 @@ use Rattle.promise3.specs.Promise.{Allowed, LongEnough}
 use Rattle.promise3.specs.Trip.{lower, tripCause, shownOf, roundTrip, plannedChannel, tripAnswer, tripOut, tripValues, tripExact, tripIndices}
 use Rattle.promise3.specs.declared.RoundTrip.{RoundTrip}
 use Rattle.promise3.proofs.Plans.{given, found-again}
+use Rattle.promise3.proofs.Allowing.{cause-allowed}
 use Rattle.promise3.proofs.Trips.{answer-is}
 
 -- ---- the lower of two causes
@@ -57,20 +55,6 @@ pub refused-zeros : (n : ℕ) → 1 ≤ n → (gains : List ℕ) → gains ≡ n
     (roundTrip n noPlan)
 unfolding roundTrip noPlan
 refused-zeros n l gains g = rw (g, ne-eqb n 0 (λ (h : n ≡ 0). omega arith))
-
--- where none of causes 1 to 5 holds, the row, the bins and the vectors are allowed
-cause-allowed : (row : List ℕ) (start end : ℕ) (x : List Float) → causeOf row start end x ≡ 0 → Allowed row start end x
-cause-allowed row start end x h =
-    let c = cause-none row start end x h in
-    let w = c .0 .row-ok in
-    record {
-      ordered = w .ordered;
-      few = w .few;
-      rows = w .rows;
-      vectors = c .0 .vectors;
-      known = λ k l u. known-hebap row start end k (w .known) l u;
-      components = λ k l u n. six-fine row x k (none-there (tooLargeAt row x) start end (c .1) k l u) (pos-of-ne-zero n);
-    }
 
 -- ---- a call; c has the output as its bytes
 module _ (row : List ℕ) (start end : ℕ) (x : List Float) (c : Call) where

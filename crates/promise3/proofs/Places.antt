@@ -7,10 +7,8 @@ use native.Mathlib.Omega.{arith}
 use lib.ListN.{length, take, drop, getD, List·getD-append}
 use lib.Seq.{length-take-le, take-append-seam, getD-append-add}
 use lib.Dec.{leb}
-use lib.Ieee.{Float}
 use borrow.Author.Tests.{leb-true}
 use Rattle.bits.specs.Bits.{splice}
-use Rattle.levels.specs.Component.{tooLarge, someTooLarge}
 use Rattle.channel.specs.Bins.{someOver}
 use Rattle.channel.specs.Row.{noGains}
 
@@ -32,6 +30,15 @@ module _ {A : Type 0} (l new : List A) (d : A) where
   six-place start k j h o u =
       let e : 6 * k + j ≡ 6 * start + (6 * (k - start) + j) = omega arith in
       ap (λ (m : ℕ). getD (splice l (6 * start) new) m d) e ∙ splice-place (6 * start) (6 * (k - start) + j) h u
+
+-- ---- lists of numbers
+pub empty : (l : List ℕ) → length l ≡ 0 → l ≡ []
+empty [] h = refl
+empty (x ∷ l) h = absurd (omega arith)
+
+pub map-behind : (f : ℕ → ℕ) (l : List ℕ) → map f (drop 1 l) ≡ drop 1 (map f l)
+map-behind f [] = refl
+map-behind f (x ∷ l) = refl
 
 -- ---- components
 pub map-place : {A B : Type 0} (f : A → B) (l : List A) (j : ℕ) (d : B) (e : A) → j < length l → getD (map f l) j d ≡ f (getD l j e)

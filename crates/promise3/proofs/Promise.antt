@@ -31,7 +31,7 @@ module _ (row : List ℕ) (start end : ℕ) (x : List Float) (a : Allowed row st
   abbrev p : Plan
   p = planned row start end x .plan
 
-  -- For every row, bins and vectors allowed in 01, the planner gives a plan,
+  -- For every row, bins and vectors that are allowed (docs/FORMAT.md, Words), the planner gives a plan,
   pub plan-given : planned row start end x .refusal ≡ 0
   plan-given = given row start end x a
 

@@ -1,2 +1,4 @@
 pub mod Promise
 pub mod Trip
+pub mod Aht
+pub mod Ahtenc

@@ -1,16 +1,16 @@
--- What the words of promise 3 mean, over the answers of the public calls. Document 01, Words, the paragraph on demand
--- 3.
+-- What the words of promise 3 mean, over the answers of the public calls. docs/FORMAT.md, Words.
 use Prim.Native.Nat.{ℕ, _+_, _*_, _≤_, _<_}
 use mathlib.Core.Path.{_≡_}
 use mathlib.Core.Bool.{Bool, false}
 use mathlib.Core.List.{List}
 use lib.IntN.{pos}
-use lib.ListN.{length, getD}
+use lib.ListN.{length, getD, drop}
 use lib.Ieee.{Float, nan}
 use Rattle.answers.specs.Answers.{sizeNumber, sizeValue}
 use Rattle.levels.specs.Component.{someTooLarge}
 use Rattle.levels.specs.Exact.{exactOf}
-use Rattle.channel.specs.Row.{gainAt, sixOf}
+use Rattle.bits.specs.Bits.{bitsOf}
+use Rattle.channel.specs.Row.{gainAt, sixOf, RowOk}
 use Rattle.channel.specs.Shown.{fieldAt}
 use Rattle.books.specs.Books.{vqSearch}
 use Rattle.quantiser.specs.Quantise.{picked, quantised, pickedNumber, pickedValue}
@@ -31,6 +31,15 @@ module _ (row : List ℕ) (start end : ℕ) (c : Call) where
   -- the outputs are long enough
   abbrev pub LongEnough : Type 0
   LongEnough = (6 * end ≤ length (c .values)) × (6 * end ≤ length (c .exact)) × (end ≤ length (c .indices))
+
+  -- none of causes 1 to 4 holds
+  pub record Readable : Type 0 where
+    pub row-is : RowOk row start end
+    pub long : LongEnough
+
+  -- the bits from its position on
+  abbrev pub bitsThere : List Bool
+  bitsThere = drop (c .at) (bitsOf (c .src))
 
   -- a field that it accepts: the bits from its position on, as many as it says
   abbrev pub acceptedField : List Bool

@@ -1,5 +1,5 @@
--- quantise_scalar and quantise_bin of the Rust, operation by operation. Document 01, Quantiser; the codes are those of
--- ATSC A/52 Annex E, 3.4.4.2.
+-- quantise_scalar and quantise_bin of the Rust, operation by operation. docs/FORMAT.md, Quantiser; the codes are those
+-- of ATSC A/52 Annex E, 3.4.4.2.
 use Prim.Native.Nat.{ℕ, suc, _+_, _-_, _%_, _^_}
 use mathlib.Core.Bool.{Bool, false, cond, _||_, _&&_}
 use mathlib.Core.List.{List, [], _∷_, map}

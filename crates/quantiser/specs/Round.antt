@@ -1,4 +1,4 @@
--- Rust's `x.round() as i32`: to the nearest whole number, halves away from zero. Document 01, Quantiser.
+-- Rust's `x.round() as i32`: to the nearest whole number, halves away from zero. docs/FORMAT.md, Quantiser.
 use Prim.Native.Nat.{ℕ, _+_, _*_, _/_, min}
 use mathlib.Core.Bool.{cond}
 use lib.IntN.{ℤ, pos, negℤ}

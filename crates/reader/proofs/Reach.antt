@@ -13,7 +13,7 @@ use Rattle.bits.proofs.Reading.{at-pos}
 use Rattle.channel.specs.Row.{noGains}
 use Rattle.channel.specs.Field.{Channel, lenient, field}
 use Rattle.channel.proofs.Laws.{lenient-laws, field-lawful}
-use Rattle.channel.proofs.Most.{field-few}
+use Rattle.channel.proofs.Most.{field-most}
 use Rattle.reader.specs.declared.ChannelRead.{ChannelRead}
 use Rattle.reader.specs.Reading.{Call, found, readAnswer, answerTo}
 use Rattle.reader.specs.Work.{WhenGot, GainsPut, fieldAnswer, Near, answerWith}
@@ -32,7 +32,7 @@ module _ (row : List ℕ) (start end : ℕ) (c : Call) (p : BitPos) (at : bitAt 
       let f = found-got row start end c d rest g in
       let bs = drop (c .at) (bitsOf (c .src)) in
       let s = field-lawful lenient lenient-laws row start end .sole bs rest d (f .is) in
-      let few = field-few lenient lenient-laws row start end d (s .1) (f .row-is .few) in
+      let few = field-most lenient lenient-laws row start end d (s .1) (f .row-is .few) in
       let l : length bs ≡ n - c .at = length-drop (c .at) (bitsOf (c .src)) ∙ ap (λ (k : ℕ). k - c .at) (length-bitsOf (c .src)) in
       let o = ap length (s .0) ∙ length-append (field row start end .enc d) rest in
       let i = f .inside in

@@ -1,4 +1,4 @@
--- What the channel reader answers: the layout backwards. Document 01, Channel reader, and 'Causes and refusals'
+-- What the channel reader answers: the layout backwards. docs/FORMAT.md, Channel reader, and 'Causes and refusals'
 -- (1 to 4, then 8, 9, 10 as met).
 use Prim.Native.Nat.{ℕ, _-_, _*_}
 use mathlib.Core.Bool.{cond, _||_}
@@ -30,7 +30,7 @@ call src at values exact indices = record { src = src; at = at; values = values;
 abbrev pub noChannel : ℕ → ChannelRead
 noChannel k = record { refusal = k; mode = 0; gains = noGains; count = 0; bits = 0 }
 
--- document 01's number and values: the mode, the gains in bin order with unused places 0, and how many of n bits
+-- the number and the values: the mode, the gains in bin order with unused places 0, and how many of n bits
 -- were used
 abbrev pub readAnswer : ℕ → Got Channel → ChannelRead
 readAnswer n (got c rest) =

@@ -272,7 +272,7 @@ pub fn print(c: Count) {
         14 => print_count(b"plan_aht_channel", c),
         15 => print_count(b"write_aht_channel", c),
         16 => print_count(b"read_aht_channel", c),
-        17 => print_count(b"read_first", c),
+        17 => print_count(b"read_three", c),
         18 => print_count(b"plan_write_read", c),
         _ => print_count(b"no function", c),
     }

@@ -4,6 +4,7 @@
 ghost use Prim.Native.Nat.{_≤_};
 use answers::ByteResult;
 use answers::SizeResult;
+use bitreader::ThreeResult;
 use bits::BitMove;
 use bits::BitRead;
 use gains::GainsResult;
@@ -27,19 +28,36 @@ fn read(r: &Record) -> BitRead {
     p.read_u32(records::input(r), records::number32(r, ARG32) as u32)
 }
 
-// The same through a reader that keeps the bytes.
-fn read_first(r: &Record) -> BitRead {
-    bitreader::read_first(
-        records::input(r),
-        records::position(r),
-        records::number32(r, ARG32) as u32,
-    )
-}
-
 fn replay_read(r: &Record, answer: BitRead) -> bool {
     match answer {
         BitRead::Number(v, q) => records::same_value(r, 0, v as u64) && records::same_place(r, q),
         BitRead::Refused(k) => records::same_value(r, k, 0),
+    }
+}
+
+// Three numbers through a reader that keeps the bytes; they stand where an output would.
+fn three(r: &Record) -> ThreeResult {
+    bitreader::read_three(
+        records::input(r),
+        records::position(r),
+        records::wide(r[A]) as u32,
+        records::wide(r[B]) as u32,
+        records::wide(r[C]) as u32,
+    )
+}
+
+fn same_three(r: &Record, x: u32, y: u32, z: u32) -> bool {
+    records::number32(r, OUT_AFTER) as u32 == x
+        && records::number32(r, OUT_AFTER + 4) as u32 == y
+        && records::number32(r, OUT_AFTER + 8) as u32 == z
+}
+
+fn replay_three(r: &Record, answer: ThreeResult) -> bool {
+    match answer {
+        ThreeResult::Values(x, y, z, q) => records::same_value(r, 0, 0)
+            && same_three(r, x, y, z)
+            && records::same_place(r, q),
+        ThreeResult::Refused(k) => records::same_value(r, k, 0),
     }
 }
 
@@ -229,7 +247,7 @@ fn right(r: &Record) -> bool {
             quantiser::quantise_scalar(r[A], r[B], records::number(r, VECTORS)),
         ),
         13 => replay_bin(r, bin(r, six(r))),
-        17 => replay_read(r, read_first(r)),
+        17 => replay_three(r, three(r)),
         _ => false,
     }
 }

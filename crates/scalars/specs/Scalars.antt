@@ -17,7 +17,7 @@ use Rattle.scalars.specs.declared.CodeResult.{CodeResult}
 use Rattle.bits.specs.declared.BitMove.{BitMove}
 use Rattle.answers.specs.Causes as cause
 
--- ---- the answers: document 01's number, and the values, of each case
+-- ---- the answers: the number, and the values, of each case
 -- what an answer of read_code shows of the bits bs: the code and the bits behind it, or the refusal
 abbrev pub codeIn : List Bool → CodeResult → Got Code
 codeIn bs (CodeResult.Read c p) = got c (drop (bitAt p) bs)

@@ -24,6 +24,11 @@ pub mant-bits : (h : ℕ) → 8 ≤ h → h ≤ 19 → (3 ≤ mantBits h) × (ma
 unfolding mantBits mantBitsTable
 mant-bits h l u = between-is 3 16 (mantBits h) (every-at (λ k. between 3 16 (mantBits k)) 12 8 h tt l (omega arith))
 
+-- where a bin can have a gain of its own
+pub mant-active : (h : ℕ) → 8 ≤ h → h ≤ 16 → mantBits h ≤ 11
+unfolding mantBits mantBitsTable
+mant-active h l u = leb→le (mantBits h) 11 (every-at (λ k. leb (mantBits k) 11) 9 8 h tt l (omega arith))
+
 pub mant-none : (h : ℕ) → (h ≤ 7) ⊎ (20 ≤ h) → mantBits h ≡ 0
 unfolding mantBits mantBitsTable
 mant-none h (inl u) = eqb→eq (mantBits h) 0 (every-at (λ k. eqb (mantBits k) 0) 8 0 h tt (omega arith) (omega arith))

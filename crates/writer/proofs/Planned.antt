@@ -17,7 +17,7 @@ use Rattle.bits.proofs.Reading.{at-pos}
 use Rattle.channel.specs.Bins.{someOver}
 use Rattle.channel.specs.Field.{lenient}
 use Rattle.channel.proofs.Laws.{lenient-laws}
-use Rattle.channel.proofs.Most.{field-few}
+use Rattle.channel.proofs.Most.{field-most}
 use Rattle.planner.specs.Choice.{choiceBits, Choice}
 use Rattle.planner.specs.Planning.{tooLargeAt, causeOf, planned, totalOf, gainsOf}
 use Rattle.planner.specs.Work.{Within}
@@ -38,8 +38,17 @@ module _ (p : Plan) (row : List ℕ) (start end : ℕ) (x : List Float) (places 
       let c = fitting p row start end x fits (omega arith) in
       channel-long (p .mode) (gainsOf p) row x start end (k .0) (k .1) (c .0) ∙ c .1
 
+  -- The greatest field: no plan that fits has more than 31,152 bits.
+  pub fits-most : causeOf row start end x ≡ 0 → planFits p row start end x ≡ true → totalOf p ≤ 31152
+  fits-most none fits =
+      let k = cause-none row start end x none in
+      let few = count-few p row start end x (k .0) fits in
+      let c = fitting p row start end x fits (omega arith) in
+      let o = channel-ok (p .mode) (gainsOf p) row x start end (k .0) (k .1) (c .0) in
+      le-trans (le-of-eq (sym (fits-long none fits))) (field-most lenient lenient-laws row start end (writtenOf (p .mode) (gainsOf p) row x start end) o (k .0 .row-ok .few))
+
   -- where something is written, no cause holds
-  written-when : (n at : ℕ) → writeCause p row start end x n at ≡ 0 → (causeOf row start end x ≡ 0) × (planFits p row start end x ≡ true) × (at + totalOf p ≤ n)
+  pub written-when : (n at : ℕ) → writeCause p row start end x n at ≡ 0 → (causeOf row start end x ≡ 0) × (planFits p row start end x ≡ true) × (at + totalOf p ≤ n)
   unfolding writeCause
   written-when n at = go (eqb (causeOf row start end x) 0) refl (planFits p row start end x) refl (leb (at + totalOf p) n) refl
     where
@@ -99,10 +108,10 @@ module _ (row : List ℕ) (start end : ℕ) (x : List Float) (given : planned ro
   pub field-long : length (fieldOf p row start end x) ≡ totalOf p
   field-long = channel-long (p .mode) (gainsOf p) row x start end within inside choice ∙ bits
 
-  pub few-bits : totalOf p ≤ 65536
+  pub few-bits : totalOf p ≤ 31152
   few-bits =
       le-trans (le-of-eq (sym field-long))
-      (field-few lenient lenient-laws row start end (writtenOf (p .mode) (gainsOf p) row x start end) (channel-ok (p .mode) (gainsOf p) row x start end within inside choice) (within .row-ok .few))
+      (field-most lenient lenient-laws row start end (writtenOf (p .mode) (gainsOf p) row x start end) (channel-ok (p .mode) (gainsOf p) row x start end within inside choice) (within .row-ok .few))
 
   pub is-written : (out : List ℕ) (at : ℕ) → at + totalOf p ≤ 8 * length out
       → (channelWrite p row start end x out at ≡ Done (posOf (at + totalOf p))) × (channelWritten p row start end x out at ≡ bytesWith out at (fieldOf p row start end x))

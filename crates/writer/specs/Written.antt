@@ -1,5 +1,5 @@
 -- What is written of a plan: its mode, its gains, and for each bin the search's index or the quantiser's codes.
--- Document 01, Writer.
+-- docs/FORMAT.md, Writer.
 use Prim.Native.Nat.{ℕ, _+_, _*_}
 use mathlib.Core.Bool.{Bool, cond}
 use mathlib.Core.List.{List, map}

@@ -28,8 +28,10 @@ slice-reshare-prefix-print-plan c =
     let g = i .before .before in
     let s = g .before .before .before .before .before in
     let a = s .args in
+    let f =
     bytes-fit (now (a .row)) (a .start) (a .end) (now (a .x)) (g .plan-aht-channel .result) (g .plan-aht-channel .ensures) (i .if1 .left) (now (a .field)) (s .pre .1)
-    (w .write-aht-channel .last .1 .1 .1 .1 .1 .0) (w .write-aht-channel .ensures .1)
+    (w .write-aht-channel .last .1 .1 .1 .1 .1 .0) (w .write-aht-channel .ensures .1) in
+    omega arith
 
 slice-aggregate-print-plan : tie.Need-slice-aggregate-print-plan
 slice-aggregate-print-plan c = sym (length-take-le _ _ (slice-reshare-prefix-print-plan (c .before)))

@@ -6,7 +6,8 @@ use lib.Seq.{length-take-le}
 use lib.ListN.{length, take}
 use borrow.Author.Needs.{needs}
 use Rattle.desktext.specs.Channel.{channelFrom, channelIn}
-use Rattle.desktext.proofs.Outputs.{same-outputs, channel-too-long, channel-broken, channel-listed}
+use Rattle.desktext.proofs.Outputs.{same-outputs, channel-broken, channel-listed}
+use Rattle.desktext.proofs.Longest.{channel-too-long}
 use Rattle.desktext.proofs.read_with.Statement.{statement}
 use Rattle.desktext.proofs.read_with.Tie as tie
 

@@ -1,10 +1,12 @@
 -- `reader::read_with` meets its contract. Assumes nothing.
-use Prim.Native.Nat.{_+_, _*_, _≤_, _<_}
+use Prim.Native.Nat.{ℕ, _+_, _*_, _≤_, _<_}
+use mathlib.Core.Bool.{Bool, true}
 use mathlib.Core.Path.{_≡_, refl, sym, ap, _∙_}
 use native.Mathlib.Omega.{arith}
 use borrow.Author.Needs.{needs}
 use borrow.Author.Tests.{leb-true, leb-false}
 use denote.Ref.{now}
+use lib.Dec.{leb}
 use lib.ListN.{length, drop}
 use Rattle.bits.specs.Bits.{bitsOf, bitAt, posOf, Inside}
 use Rattle.bits.proofs.Reading.{at-pos}
@@ -30,12 +32,12 @@ cause c = let a = start c .args in c .row-cause .ensures ∙ ap (rowCause (now (
 none : (c : tie.Else1) → let a = start (c .before) .args in readCause (now (a .hebap)) (a .start) (a .end) (seen (start (c .before))) ≡ 0
 none c = sym (cause (c .before)) ∙ c .if1 .left
 
--- and the position is not past the end
+-- and the position is not past the end, whatever number of bits was asked for
+has-room : (p k n : ℕ) (b : Bool) → b ≡ leb (p + k) n → b ≡ true → p ≤ n
+has-room p k n b e t = let h : p + k ≤ n = leb-true (p + k) n (sym e ∙ t) in omega arith
+
 inside : (c : tie.Then2) → let a = start (c .before .before .before) .args in bitAt (a .pos) ≤ 8 * length (now (a .src))
-inside c =
-    let a = start (c .before .before .before) .args in
-    let h : bitAt (a .pos) + 1 * 0 ≤ 8 * length (now (a .src)) = leb-true _ _ (sym (c .before .has-bits .ensures) ∙ c .if2 .taken) in
-    omega arith
+inside c = has-room _ _ _ _ (c .before .has-bits .ensures) (c .if2 .taken)
 
 place : (c : tie.After-advance) → c .advance .result ≡ posOf (bitAt (start (c .before .before .before .before) .args .pos))
 place c =

@@ -27,7 +27,7 @@ large-code-requires c κs =
     let s = c .before .before .before in
     let st = s .args .st in
     let k = c .search-one in
-    (s .pre, held-under (k .result) (2 ^ st .n) (k .ok) (k .ensures) (best-one-small (st .hebap) (st .n) (s .args .x)))
+    (s .pre, held-under (k .result) (2 ^ st .n) (k .ok) (k .ensures) (best-one-small (st .hebap) (st .n) _))
 
 returns : tie.Need-returns
 returns c =
