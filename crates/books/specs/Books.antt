@@ -39,7 +39,7 @@ exactEntry e = e *ℤ pos (2 ^ 15)
 unfoldable pub vqLookup : ℕ → ℕ → List Float
 vqLookup h i = cond (hasBook h) (sixAt (book h) (i % 2 ^ vqBits h * 6)) (replicate 6 f0)
 
--- their exact values, in units of 2 ^ -30: entry × 2 ^ 15. docs/FORMAT.md, Channel reader
+-- their exact values, in units of 2 ^ -30: entry × 2 ^ 15. docs/FORMAT.md, Levels
 unfoldable pub exactsAt : List ℤ → ℕ → List ℤ
 exactsAt b a = sixBy exactEntry b a
 

@@ -1,5 +1,5 @@
 -- The field of a channel: two bits of mode, gain words, then the bins start to end - 1 in rising order.
--- ATSC A/52 Annex E, 3.4; docs/FORMAT.md, Writer and Channel reader.
+-- ATSC A/52 Annex E, 3.4; docs/FORMAT.md, Gains, Writer and Channel reader.
 use Prim.Native.Nat.{ℕ, zero, suc}
 use mathlib.Core.Bool.{Bool, cond, _&&_, _||_}
 use mathlib.Core.List.{List, [], _∷_}

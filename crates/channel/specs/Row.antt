@@ -1,5 +1,5 @@
 -- The bins start to end - 1 of a row, by their places: which are active, the gain of each, and causes 1 to 4.
--- docs/FORMAT.md, Words, Planner, and 'Causes and refusals'; ATSC A/52 Annex E, 3.4.2.
+-- docs/FORMAT.md, Words, Gains, and 'Causes and refusals'; ATSC A/52 Annex E, 3.4.2.
 use Prim.Native.Nat.{ℕ, _*_, _≤_}
 use mathlib.Core.Path.{_≡_}
 use mathlib.Core.Bool.{Bool, false, cond, _||_}

@@ -1,5 +1,5 @@
--- Gain-adaptive quantisation: which bins have a gain, and how gains stand in the field. ATSC A/52 Annex E, 3.4.2 and
--- 3.4.4.2, Tables E3.3 and E3.4.
+-- Gain-adaptive quantisation: which bins have a gain, and how gains stand in the field.
+-- docs/FORMAT.md, Gains and 'Small ports'; ATSC A/52 Annex E, 3.4.2 and 3.4.4.2, Tables E3.3 and E3.4.
 use Prim.Native.Nat.{ℕ, zero, suc, _+_, _-_, _*_, _/_, _%_, min}
 use mathlib.Core.List.{List, [], _∷_, _++_, map}
 use mathlib.Core.Bool.{Bool, false, cond, not, _&&_, _||_}

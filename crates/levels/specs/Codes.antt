@@ -1,4 +1,5 @@
--- The codes of a scalar mantissa and how they stand as bits. ATSC A/52 Annex E, 3.4.4.2, Table E3.5.
+-- The codes of a scalar mantissa and how they stand as bits.
+-- docs/FORMAT.md, Levels; ATSC A/52 Annex E, 3.4.4.2, Table E3.5.
 use Prim.Native.Nat.{ℕ, suc, _+_, _-_, _^_, _<_}
 use mathlib.Core.Path.{_≡_}
 use mathlib.Core.Bool.{cond}

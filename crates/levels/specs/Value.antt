@@ -1,5 +1,5 @@
 -- The f32 value of a code, operation by operation as in the Rust, each rounded once (lib.Ieee, binary32).
--- ATSC A/52 Annex E, 3.4.4.2, Table E3.6.
+-- docs/FORMAT.md, Levels; ATSC A/52 Annex E, 3.4.4.2, Table E3.6.
 use Prim.Native.Nat.{ℕ, _-_, _^_}
 use mathlib.Core.Bool.{cond, not}
 use lib.Dec.{eqb}

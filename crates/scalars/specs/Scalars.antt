@@ -1,4 +1,5 @@
--- What reading scalar mantissas answers: a code, a bin, read_scalar_aht_mantissas. ATSC A/52 Annex E, 3.4.4.2.
+-- What reading scalar mantissas answers: a code, a bin, read_scalar_aht_mantissas.
+-- docs/FORMAT.md, Levels and 'Small ports'; ATSC A/52 Annex E, 3.4.4.2.
 use Prim.Native.Nat.{ℕ, _*_, _-_}
 use mathlib.Core.Bool.{Bool, cond}
 use mathlib.Core.List.{List, map}

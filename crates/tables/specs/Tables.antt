@@ -1,4 +1,4 @@
--- What the tables of ATSC A/52 Annex E, section 3.4, say of a hebap.
+-- What the tables of ATSC A/52 Annex E, section 3.4, say of a hebap. docs/FORMAT.md, Tables and 'Small ports'.
 use Prim.Native.Nat.{ℕ, _+_, _-_, _*_, _/_, min}
 use mathlib.Core.List.{List, []}
 use mathlib.Core.Bool.{cond, _||_}
