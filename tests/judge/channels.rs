@@ -3,7 +3,7 @@ use crate::eac3::{aht, ahtenc};
 use crate::ours;
 use crate::random::Random;
 use crate::shown::{self, Shown};
-use crate::signals::{bin_of, cause, channel, nudged, vectors};
+use crate::signals::{bin_of, cause, channel, fitting, nudged, some_plan, unit, vectors, with_field};
 use crate::Tally;
 use oxideav_core::bits::BitWriter;
 
@@ -13,6 +13,7 @@ pub fn run(seed: u64, all: &mut Tally) {
     damaged(&mut Random::new(seed + 22), all);
     cut(&mut Random::new(seed + 23), all);
     outputs(&mut Random::new(seed + 24), all);
+    largest(&mut Random::new(seed + 25), all);
 }
 
 /// A channel of few bins mostly, of up to 256 at times.
@@ -28,33 +29,6 @@ fn some_channel(random: &mut Random) -> (Vec<u8>, Vec<f32>, usize, usize) {
     (row, x, start, end)
 }
 
-/// The Rust's plan, or a mode and gains drawn at will with the bits that the Rust's codes have.
-fn some_plan(random: &mut Random, row: &[u8], start: usize, end: usize, x: &[f32]) -> ahtenc::AhtChannelPlan {
-    if random.below(2) == 0 {
-        return ahtenc::plan_aht_channel(row, start, end, &vectors(x));
-    }
-    let mode = random.below(4) as u8;
-    let allowed: &[u8] = [&[0u8][..], &[0, 1], &[0, 2], &[0, 1, 2]][mode as usize];
-    let (mut gains, mut bits) = (Vec::new(), 0);
-    for k in start..end {
-        let v: [f32; 6] = x[6 * k..6 * k + 6].try_into().unwrap();
-        bits += match row[k] {
-            0 => 0,
-            h @ 1..=7 => u32::from(aht::VQ_BITS[h as usize]),
-            h => {
-                let active = mode > 0 && h < aht::endbap_for_gaqmod(mode);
-                if active {
-                    gains.push(random.pick(allowed));
-                }
-                let gk = if active { [1, 2, 4][*gains.last().unwrap() as usize] } else { 1 };
-                bin_of(h, gk, &v).0
-            }
-        };
-    }
-    let words = aht::gaq_sections(mode, gains.len()) as u32 * if mode == 3 { 5 } else { 1 };
-    ahtenc::AhtChannelPlan { gaqmod: mode, gains, payload_bits: bits + words }
-}
-
 /// The same plan as the library has it; the places that no gain uses hold anything.
 fn plan_of(random: &mut Random, p: &ahtenc::AhtChannelPlan) -> ours::Plan {
     let mut gains = [0u8; 256];
@@ -62,22 +36,6 @@ fn plan_of(random: &mut Random, p: &ahtenc::AhtChannelPlan) -> ours::Plan {
         *g = p.gains.get(i).map_or_else(|| random.below(256) as u8, |&code| [1, 2, 4][code as usize]);
     }
     ours::Plan { mode: p.gaqmod, gains, count: p.gains.len(), payload: p.payload_bits }
-}
-
-/// The bits of the Rust's field, put into the bytes from a position on.
-fn with_field(bytes: &[u8], at: usize, p: &ahtenc::AhtChannelPlan, row: &[u8], start: usize, end: usize, x: &[f32]) -> (Vec<u8>, usize) {
-    let mut w = BitWriter::new();
-    ahtenc::write_aht_channel(&mut w, p, row, start, end, &vectors(x));
-    let n = w.bits();
-    let field = w.finish();
-    let mut out = bytes.to_vec();
-    for i in 0..n {
-        let bit = field[i / 8] >> (7 - i % 8) & 1;
-        let byte = &mut out[(at + i) / 8];
-        let mask = 1 << (7 - (at + i) % 8);
-        *byte = if bit == 1 { *byte | mask } else { *byte & !mask };
-    }
-    (out, n)
 }
 
 /// Lent outputs with a pattern in them, for bins up to `end` and some more.
@@ -99,7 +57,8 @@ fn read_both(t: &mut Tally, random: &mut Random, src: &[u8], at: usize, row: &[u
     let mut answer = ours::Channel::filled();
     let over = if random.below(7) == 0 { random.below(at / 8 + 1) } else { 0 };
     let p = ours::Pos { byte: at / 8 - over, bit: (at % 8 + 8 * over) as u32 };
-    let refusal = ours::read_aht_channel(src, p, row, start, end, &mut got, &mut answer);
+    let mut next = p;
+    let refusal = ours::read_aht_channel(src, &mut next, row, start, end, &mut got, &mut answer);
     let theirs = shown::read(src, at, &row[start..end]);
     let (number, mut expected) = (theirs.as_ref().err().copied().unwrap_or(0), ours::Channel::filled());
     if let Ok(s) = &theirs {
@@ -110,11 +69,12 @@ fn read_both(t: &mut Tally, random: &mut Random, src: &[u8], at: usize, row: &[u
         want.indices[start..end].copy_from_slice(&s.indices);
     }
     let same = refusal == number
+        && next == theirs.as_ref().map_or(p, |s| ours::Pos::of(at + s.bits))
         && answer == expected
         && got.exact == want.exact
         && got.indices == want.indices
         && got.values.iter().map(|v| v.to_bits()).eq(want.values.iter().map(|v| v.to_bits()));
-    t.case(same, || format!("{src:?} at {at}, {row:?} {start} {end}: {refusal} {answer:?} {got:?}, not {number} {expected:?} {want:?}"));
+    t.case(number, same, || format!("{src:?} at {at}, {row:?} {start} {end}: {refusal} {next:?} {answer:?} {got:?}, not {number} {expected:?} {want:?}"));
     theirs
 }
 
@@ -122,14 +82,14 @@ fn read_both(t: &mut Tally, random: &mut Random, src: &[u8], at: usize, row: &[u
 /// read there.
 fn written(random: &mut Random, all: &mut Tally) {
     let (mut p, mut w) = (Tally::of("plan_aht_channel, written"), Tally::of("write_aht_channel, written"));
-    let (mut r, mut b) = (Tally::of("read_aht_channel, written"), Tally::of("read back: what was written"));
+    let (mut r, mut b) = (Tally::of("read_aht_channel, written"), Tally::of("read_aht_channel, read back"));
     for _ in 0..crate::times(120_000, 1_000_000) {
         let (row, x, start, end) = some_channel(random);
         let best = ahtenc::plan_aht_channel(&row, start, end, &vectors(&x));
         let (mut planned, mut want) = (ours::Plan::filled(), plan_of(random, &best));
         want.gains[best.gains.len()..].fill(0);
         let refusal = ours::plan_aht_channel(&row, start, end, &x, &mut planned);
-        p.case(refusal == 0 && planned == want, || format!("{row:?} {start} {end} {x:?}: {refusal} {planned:?}, not {want:?}"));
+        p.case(0, refusal == 0 && planned == want, || format!("{row:?} {start} {end} {x:?}: {refusal} {planned:?}, not {want:?}"));
         let rust = some_plan(random, &row, start, end, &x);
         let (at, total) = (random.below(40), 2 + rust.payload_bits as usize);
         let len = (at + total).div_ceil(8) + random.below(3);
@@ -138,7 +98,7 @@ fn written(random: &mut Random, all: &mut Tally) {
         let mut out = before.clone();
         let mut next = ours::Pos::of(at);
         let refusal = ours::write_aht_channel(&plan_of(random, &rust), &row, start, end, &x, &mut out, &mut next);
-        w.case(refusal == 0 && n == total && out == want && next == ours::Pos::of(at + total), || {
+        w.case(0, refusal == 0 && n == total && out == want && next == ours::Pos::of(at + total), || {
             format!("{row:?} {start} {end} {x:?} {rust:?} at {at}: {refusal} {out:?} {next:?}, not {want:?}")
         });
         let shown = read_both(&mut r, random, &out, at, &row, start, end);
@@ -162,7 +122,7 @@ fn written(random: &mut Random, all: &mut Tally) {
                     s.indices[k - start] == index && s.values[6 * (k - start)..6 * (k - start) + 6].iter().map(|y| y.to_bits()).eq(values.iter().map(|y| y.to_bits()))
                 })
         });
-        b.case(back, || format!("{row:?} {start} {end} {x:?} {rust:?} at {at}"));
+        b.case(0, back, || format!("{row:?} {start} {end} {x:?} {rust:?} at {at}"));
     }
     p.close(all);
     w.close(all);
@@ -209,7 +169,7 @@ fn refused(random: &mut Random, all: &mut Tally) {
         let mut number = cause(&row, start, end, &x);
         let mut field = None;
         if number == 0 {
-            match fitting(&plan, &row, start, end, &x) {
+            match fitting(plan.mode, &plan.gains, plan.count, plan.payload, &row, start, end, &x) {
                 None => number = 6,
                 Some(theirs) => {
                     let room = (8 * len as u128).checked_sub(8 * p.byte as u128 + p.bit as u128);
@@ -225,29 +185,9 @@ fn refused(random: &mut Random, all: &mut Tally) {
         let mut q = p;
         let refusal = ours::write_aht_channel(&plan, &row, start, end, &x, &mut out, &mut q);
         let moved = if number == 0 { ours::Pos::of(8 * p.byte + p.bit as usize + 2 + plan.payload as usize) } else { p };
-        t.case(refusal == number && out == field.unwrap_or(before) && q == moved, || format!("{plan:?} {row:?} {start} {end} {x:?} {p:?} {len}: {refusal} {q:?}, not {number} {moved:?}"));
+        t.case(number, refusal == number && out == field.unwrap_or(before) && q == moved, || format!("{plan:?} {row:?} {start} {end} {x:?} {p:?} {len}: {refusal} {q:?}, not {number} {moved:?}"));
     }
     t.close(all);
-}
-
-/// The Rust's plan where ours fits by the words of docs/FORMAT.md.
-fn fitting(plan: &ours::Plan, row: &[u8], start: usize, end: usize, x: &[f32]) -> Option<ahtenc::AhtChannelPlan> {
-    if plan.mode > 3 {
-        return None;
-    }
-    let active = |h: u8| plan.mode > 0 && (8..aht::endbap_for_gaqmod(plan.mode)).contains(&h);
-    if plan.count != (start..end).filter(|&k| active(row[k])).count() {
-        return None;
-    }
-    let allowed: &[u8] = [&[1u8][..], &[1, 2], &[1, 4], &[1, 2, 4]][plan.mode as usize];
-    if plan.gains[..plan.count].iter().any(|g| !allowed.contains(g)) {
-        return None;
-    }
-    let gains: Vec<u8> = plan.gains[..plan.count].iter().map(|g| g / 2).collect();
-    let theirs = ahtenc::AhtChannelPlan { gaqmod: plan.mode, gains, payload_bits: plan.payload };
-    let mut w = BitWriter::new();
-    ahtenc::write_aht_channel(&mut w, &theirs, row, start, end, &vectors(x));
-    (w.bits() == 2 + plan.payload as usize).then_some(theirs)
 }
 
 /// Fields with bits changed, and bytes that were never a field.
@@ -349,8 +289,9 @@ fn outputs(random: &mut Random, all: &mut Tally) {
         if (1..=4).contains(&number) {
             let before = got.clone();
             let mut answer = ours::Channel::filled();
-            let refusal = ours::read_aht_channel(&src, ours::Pos::of(at), &row, start, end, &mut got, &mut answer);
-            t.case(refusal == number && answer == ours::Channel::filled() && got.bits() == before.bits(), || format!("{row:?} {start} {end}: {refusal}, not {number}"));
+            let mut next = ours::Pos::of(at);
+            let refusal = ours::read_aht_channel(&src, &mut next, &row, start, end, &mut got, &mut answer);
+            t.case(number, refusal == number && next == ours::Pos::of(at) && answer == ours::Channel::filled() && got.bits() == before.bits(), || format!("{row:?} {start} {end}: {refusal}, not {number}"));
         }
     }
     // 256 active bins in mode 3: the last of 86 group words has one gain; its missing codes stand beyond 256 places
@@ -372,9 +313,35 @@ fn outputs(random: &mut Random, all: &mut Tally) {
     for p in [ours::Pos { byte: usize::MAX, bit: u32::MAX }, ours::Pos { byte: 0, bit: u32::MAX }, ours::Pos { byte: 2, bit: 0 }, ours::Pos { byte: 0, bit: 9 }] {
         let mut got = patterned(random, 0);
         let mut answer = ours::Channel::filled();
-        let refusal = ours::read_aht_channel(&[0], p, &[], 0, 0, &mut got, &mut answer);
-        t.case(refusal == 8 && answer == ours::Channel::filled(), || format!("{p:?}: {refusal}, not 8"));
+        let mut next = p;
+        let refusal = ours::read_aht_channel(&[0], &mut next, &[], 0, 0, &mut got, &mut answer);
+        t.case(8, refusal == 8 && next == p && answer == ours::Channel::filled(), || format!("{p:?}: {refusal}, not 8"));
     }
     t.close(all);
 }
 
+/// The largest field there is, 31,152 bits: 256 bins of hebap 16 in mode 3, every gain 2 or 4 and every code large.
+fn largest(random: &mut Random, all: &mut Tally) {
+    let (mut w, mut r) = (Tally::of("write_aht_channel, largest"), Tally::of("read_aht_channel, largest"));
+    for at in 0..16 {
+        let row = [16u8; 256];
+        let x: Vec<f32> = (0..6 * 256).map(|_| (0.6 + 0.4 * unit(random)) * random.pick(&[1.0, -1.0])).collect();
+        let gains: Vec<u8> = (0..256).map(|_| 1 + random.below(2) as u8).collect();
+        let rust = ahtenc::AhtChannelPlan { gaqmod: 3, gains, payload_bits: 31150 };
+        let before = random.bytes((at + 31152usize).div_ceil(8));
+        let (want, n) = with_field(&before, at, &rust, &row, 0, 256, &x);
+        let (mut out, mut next) = (before.clone(), ours::Pos::of(at));
+        let refusal = ours::write_aht_channel(&plan_of(random, &rust), &row, 0, 256, &x, &mut out, &mut next);
+        w.case(0, refusal == 0 && n == 31152 && out == want && next == ours::Pos::of(at + 31152), || format!("at {at}: {refusal} {n} {next:?}"));
+        let shown = read_both(&mut r, random, &out, at, &row, 0, 256);
+        assert_eq!(shown.map(|s| s.bits), Ok(31152));
+        // and a byte less
+        let (mut short, mut place) = (before[1..].to_vec(), ours::Pos::of(at));
+        let refusal = ours::write_aht_channel(&plan_of(random, &rust), &row, 0, 256, &x, &mut short, &mut place);
+        w.case(7, refusal == 7 && short == before[1..] && place == ours::Pos::of(at), || format!("at {at}, a byte less: {refusal}"));
+        let shown = read_both(&mut r, random, &out[..out.len() - 1], at, &row, 0, 256);
+        assert_eq!(shown.err(), Some(8));
+    }
+    w.close(all);
+    r.close(all);
+}

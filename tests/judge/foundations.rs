@@ -2,6 +2,7 @@
 use crate::eac3::aht;
 use crate::ours::{self, Pos};
 use crate::random::Random;
+use crate::signals::kept;
 use crate::Tally;
 use oxideav_core::bits::{BitReader, BitWriter};
 
@@ -61,7 +62,7 @@ fn read_u32(random: &mut Random, all: &mut Tally) {
                             None => (8, p, 0x5a5a_5a5a),
                         }
                     };
-                    t.case((refusal, after, value) == want, || format!("{src:?} {p:?} {n}: {refusal} {after:?} {value}, not {want:?}"));
+                    t.case(want.0, (refusal, after, value) == want, || format!("{src:?} {p:?} {n}: {refusal} {after:?} {value}, not {want:?}"));
                 }
             }
         }
@@ -87,7 +88,7 @@ fn write_u32(random: &mut Random, all: &mut Tally) {
                             None => (7, p, before.clone()),
                         }
                     };
-                    t.case((refusal, after, out.clone()) == want, || format!("{before:?} {p:?} {v} {n}: {refusal} {after:?} {out:?}, not {want:?}"));
+                    t.case(want.0, (refusal, after, out.clone()) == want, || format!("{before:?} {p:?} {v} {n}: {refusal} {after:?} {out:?}, not {want:?}"));
                 }
             }
         }
@@ -116,7 +117,7 @@ fn hebap_from_address(random: &mut Random, all: &mut Tally) {
         let mut hebap = 99;
         let refusal = ours::hebap_from_address(psd, mask, &mut hebap);
         let want = if (-65536..=65536).contains(&mask) { (0, aht::hebap_from_address(psd, mask)) } else { (12, 99) };
-        t.case((refusal, hebap) == want, || format!("{psd} {mask}: {refusal} {hebap}, not {want:?}"));
+        t.case(want.0, (refusal, hebap) == want, || format!("{psd} {mask}: {refusal} {hebap}, not {want:?}"));
     };
     let masks = [0, 1, -1, 31, 32, -32, 255, 256, 2015, 2016, 2017, 8192, -8192, 32767, -32768, 65535, 65536, -65535, -65536, 65537, -65537, i32::MAX, i32::MIN];
     for psd in i16::MIN..=i16::MAX {
@@ -139,7 +140,7 @@ fn endbap_for_gaqmod(all: &mut Tally) {
         let mut endbap = 99;
         let refusal = ours::endbap_for_gaqmod(mode, &mut endbap);
         let want = if mode > 3 { (12, 99) } else { (0, aht::endbap_for_gaqmod(mode)) };
-        t.case((refusal, endbap) == want, || format!("{mode}: {refusal} {endbap}"));
+        t.case(want.0, (refusal, endbap) == want, || format!("{mode}: {refusal} {endbap}"));
     }
     t.close(all);
 }
@@ -154,7 +155,7 @@ fn fill_gaqbin(random: &mut Random, all: &mut Tally) {
             want_active = aht::fill_gaqbin(row, mode, &mut want);
             number = 0;
         }
-        t.case((refusal, active, &out) == (number, want_active, &want), || format!("{row:?} {mode} {places}: {refusal} {active} {out:?}"));
+        t.case(number, (refusal, active, &out) == (number, want_active, &want), || format!("{row:?} {mode} {places}: {refusal} {active} {out:?}"));
     };
     for h in 0..=255 {
         for mode in 0..=255 {
@@ -177,7 +178,7 @@ fn gaq_sections(random: &mut Random, all: &mut Tally) {
         let mut sections = 4711;
         let refusal = ours::gaq_sections(mode, active, &mut sections);
         let want = if mode > 3 { (12, 4711) } else { (0, aht::gaq_sections(mode, active)) };
-        t.case((refusal, sections) == want, || format!("{mode} {active}: {refusal} {sections}"));
+        t.case(want.0, (refusal, sections) == want, || format!("{mode} {active}: {refusal} {sections}"));
     };
     for mode in 0..=255 {
         for active in (0..600).chain([usize::MAX - 2, usize::MAX - 1, usize::MAX, usize::MAX / 3]) {
@@ -197,7 +198,7 @@ fn gaq_gain_value(all: &mut Tally) {
             let mut gain = 99;
             let refusal = ours::gaq_gain_value(code, mode, &mut gain);
             let want = if mode > 3 { (12, 99) } else { (0, aht::gaq_gain_value(code, mode)) };
-            t.case((refusal, gain) == want, || format!("{code} {mode}: {refusal} {gain}"));
+            t.case(want.0, (refusal, gain) == want, || format!("{code} {mode}: {refusal} {gain}"));
         }
     }
     t.close(all);
@@ -223,7 +224,7 @@ fn read_gaq_gains(random: &mut Random, all: &mut Tally) {
                 None => (8, p, untouched, 4711),
             }
         };
-        t.case((refusal, after, out.clone(), count) == want, || {
+        t.case(want.0, (refusal, after, out.clone(), count) == want, || {
             format!("{src:?} {p:?} mode {mode}, {sections} sections, {places} places: {refusal} {after:?} {out:?} {count}, not {want:?}")
         });
     };
@@ -260,7 +261,7 @@ fn bits6(v: [f32; 6]) -> [u32; 6] {
 }
 
 fn scalar_case(t: &mut Tally, src: &[u8], p: Pos, hebap: u8, mode: u8, gaqbin: i8, code: u8) {
-    let filler = [f32::from_bits(0x4242_4242); 6];
+    let filler = kept();
     let (mut after, mut out) = (p, filler);
     let refusal = ours::read_scalar_aht_mantissas(src, &mut after, hebap, mode, gaqbin, code, &mut out);
     let want = if mode > 3 {
@@ -279,14 +280,14 @@ fn scalar_case(t: &mut Tally, src: &[u8], p: Pos, hebap: u8, mode: u8, gaqbin: i
             None => (8, p, filler),
         }
     };
-    t.case((refusal, after, bits6(out)) == (want.0, want.1, bits6(want.2)), || {
+    t.case(want.0, (refusal, after, bits6(out)) == (want.0, want.1, bits6(want.2)), || {
         format!("{src:?} {p:?} hebap {hebap} mode {mode} gaqbin {gaqbin} code {code}: {refusal} {after:?} {out:?}, not {want:?}")
     });
 }
 
 /// Every code of every hebap and gain, six to a call, the scalar reader's Gk 2 and 4 at hebap 17 to 19 among them.
 fn scalar_codes(all: &mut Tally) {
-    let mut t = Tally::of("scalar reader, all codes");
+    let mut t = Tally::of("read_scalar_aht_mantissas, all codes");
     for hebap in 8..=19u8 {
         let m = u32::from(aht::HEBAP_MANT_BITS[hebap as usize]);
         for (mode, code, small, large) in [(0u8, 0u8, 0, m), (1, 1, m - 1, m - 1), (3, 2, m - 2, m)] {
@@ -318,7 +319,7 @@ fn scalar_codes(all: &mut Tally) {
 }
 
 fn scalar_random(random: &mut Random, all: &mut Tally) {
-    let mut t = Tally::of("scalar reader, random");
+    let mut t = Tally::of("read_scalar_aht_mantissas, random");
     for hebap in 0..=255 {
         for mode in 0..=7 {
             for gaqbin in [-128, -1, 0, 1, 2, 127] {

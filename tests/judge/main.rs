@@ -31,11 +31,13 @@ mod ours;
 mod random;
 #[cfg(record)]
 mod record;
+#[cfg(record)]
+mod record_channels;
 mod shown;
 mod signals;
 
 fn seed() -> u64 {
-    std::env::args().nth(1).and_then(|s| s.parse().ok()).unwrap_or(1)
+    std::env::args().nth(1).and_then(|s| s.parse().ok()).expect("a seed")
 }
 
 /// How often a case is drawn: as usual; with the second word `scale` at scale; with `few`, for a slow machine under
@@ -49,13 +51,33 @@ pub fn times(usual: usize, at_scale: usize) -> usize {
     }
 }
 
-/// Built with --cfg record it needs no proved library: it writes the Rust's answers to the two files that its other
-/// words name.
+/// Built with --cfg record it needs no proved library: it writes the Rust's answers to the crates in the folder that
+/// its other word names.
 #[cfg(record)]
 fn main() {
-    let file = |n| std::env::args().nth(n).expect("two files to write");
-    record::write(seed(), &file(2), &file(3));
+    record::write(seed(), &std::env::args().nth(2).expect("a folder to write to"));
 }
+
+/// Each call with all of its refusals, 0 for an answer: the comparison must have met each.
+#[cfg(not(record))]
+const MET: [(&str, &[u8]); 16] = [
+    ("read_u32", &[0, 8, 12]),
+    ("write_u32", &[0, 7, 12]),
+    ("hebap_from_address", &[0, 12]),
+    ("endbap_for_gaqmod", &[0, 12]),
+    ("fill_gaqbin", &[0, 12]),
+    ("gaq_sections", &[0, 12]),
+    ("gaq_gain_value", &[0, 12]),
+    ("read_gaq_gains", &[0, 8, 12]),
+    ("read_scalar_aht_mantissas", &[0, 4, 8, 12]),
+    ("vq_lookup", &[0]),
+    ("vq_search", &[0, 5]),
+    ("quantise_scalar", &[0, 5, 11]),
+    ("quantise_bin", &[0, 5, 11]),
+    ("plan_aht_channel", &[0, 1, 2, 3, 4, 5]),
+    ("write_aht_channel", &[0, 1, 2, 3, 4, 5, 6, 7]),
+    ("read_aht_channel", &[0, 1, 2, 3, 4, 8, 9, 10]),
+];
 
 #[cfg(not(record))]
 fn main() {
@@ -66,27 +88,40 @@ fn main() {
     coding::run(seed, &mut all);
     channels::run(seed, &mut all);
     println!("compare: {} cases, {} different", all.cases, all.different);
-    if all.different > 0 {
+    let mut missing = 0;
+    for (call, refusals) in MET {
+        let met: Vec<String> = refusals.iter().map(|&n| format!("{n}×{}", all.met.get(&(call, n)).copied().unwrap_or(0))).collect();
+        println!("compare: {call:<28} {}", met.join(" "));
+        missing += refusals.iter().filter(|&&n| !all.met.contains_key(&(call, n))).count();
+    }
+    let known = |&(call, n): &(&str, u8)| MET.iter().any(|(c, refusals)| *c == call && refusals.contains(&n));
+    let unknown: Vec<_> = all.met.keys().filter(|k| !known(k)).collect();
+    println!("compare: {missing} refusals of a call were not met, {} are on no list {unknown:?}", unknown.len());
+    if all.different > 0 || missing > 0 || !unknown.is_empty() {
         std::process::exit(1);
     }
 }
 
-/// The cases of one function, or of all.
+/// The cases of one call, or of all.
 #[derive(Default)]
 pub struct Tally {
+    /// The call, and behind a comma what its cases are.
     pub name: &'static str,
     pub cases: u64,
     pub different: u64,
+    /// How often a call was due to answer a number.
+    pub met: std::collections::HashMap<(&'static str, u8), u64>,
 }
 
 impl Tally {
     pub fn of(name: &'static str) -> Self {
-        Tally { name, cases: 0, different: 0 }
+        Tally { name, ..Tally::default() }
     }
 
-    /// Counts a case; the first few that differ are shown.
-    pub fn case(&mut self, same: bool, what: impl FnOnce() -> String) {
+    /// Counts a case in which a refusal is due, 0 for none; the first few that differ are shown.
+    pub fn case(&mut self, due: u8, same: bool, what: impl FnOnce() -> String) {
         self.cases += 1;
+        *self.met.entry((self.name.split(',').next().unwrap(), due)).or_default() += 1;
         if !same {
             self.different += 1;
             if self.different <= 5 {
@@ -96,8 +131,11 @@ impl Tally {
     }
 
     pub fn close(self, all: &mut Tally) {
-        println!("compare: {:<28} {:>10} cases, {} different", self.name, self.cases, self.different);
+        println!("compare: {:<40} {:>10} cases, {} different", self.name, self.cases, self.different);
         all.cases += self.cases;
         all.different += self.different;
+        for (k, n) in self.met {
+            *all.met.entry(k).or_default() += n;
+        }
     }
 }

@@ -27,7 +27,7 @@ extern "C" {
         byte: *mut usize, bit: *mut u32,
     ) -> u8;
     fn fathrugg_read_aht_channel(
-        src: *const u8, len: usize, byte: usize, bit: u32, hebap: *const u8, bins: usize, start: usize, end: usize, values: *mut f32, nvalues: usize, exact: *mut i32, nexact: usize,
+        src: *const u8, len: usize, byte: *mut usize, bit: *mut u32, hebap: *const u8, bins: usize, start: usize, end: usize, values: *mut f32, nvalues: usize, exact: *mut i32, nexact: usize,
         indices: *mut u16, nindices: usize, mode: *mut u8, gains: *mut u8, count: *mut usize, bits: *mut u32,
     ) -> u8;
 }
@@ -160,10 +160,10 @@ impl Outputs {
     }
 }
 
-pub fn read_aht_channel(src: &[u8], p: Pos, hebap: &[u8], start: usize, end: usize, out: &mut Outputs, c: &mut Channel) -> u8 {
+pub fn read_aht_channel(src: &[u8], p: &mut Pos, hebap: &[u8], start: usize, end: usize, out: &mut Outputs, c: &mut Channel) -> u8 {
     unsafe {
         fathrugg_read_aht_channel(
-            src.as_ptr(), src.len(), p.byte, p.bit, hebap.as_ptr(), hebap.len(), start, end, out.values.as_mut_ptr(), out.values.len(), out.exact.as_mut_ptr(), out.exact.len(),
+            src.as_ptr(), src.len(), &mut p.byte, &mut p.bit, hebap.as_ptr(), hebap.len(), start, end, out.values.as_mut_ptr(), out.values.len(), out.exact.as_mut_ptr(), out.exact.len(),
             out.indices.as_mut_ptr(), out.indices.len(), &mut c.mode, c.gains.as_mut_ptr(), &mut c.count, &mut c.bits,
         )
     }

@@ -1,29 +1,71 @@
-//! The recorded answers that crates/replay and crates/replay_channels replay: calls with what the Rust answers, 256
-//! bytes each, least significant byte first. Their files stdin were made by `tests/compare ../shared/docs/src
-//! 20261115 record`. read_u32, read_three and write_u32 are the stand-in's answers, read_aht_channel's those of the
-//! Rust's reading functions in the order of the layout (shown.rs); the numbers of refusals are those of docs/FORMAT.md.
+//! The recorded answers that crates/replay and crates/replay_channels replay: calls with what the Rust answers. Their
+//! files stdin and stdout were made by `tests/compare FOLDER 20261117 record`, and tests/compare makes them again and
+//! compares. read_u32, read_three and write_u32 are the stand-in's answers, read_aht_channel's those of the Rust's
+//! reading functions in the order of the layout (shown.rs); the numbers of refusals are those of docs/FORMAT.md.
 //!
-//! 0 function, 1 refusal, 2 to 5 small arguments, 6 length of the input, 7 places of the output, 8 position's byte (8
-//! bytes), 16 its bit (4), 20 a number of 32 bits, 24 one of 64, 32 the input (24), 56 the output before (24), 80 the
-//! output after (24), 104 the value, 112 and 120 the position after, 128 vectors (120). A refused call has its value
-//! 0 and its position and output as they were, a refused plan or bin is zeros.
+//! Here are the calls below the planner, 256 bytes each, least significant byte first: 0 function, 1 refusal, 2 to 5
+//! small arguments, 6 length of the input, 7 places of the output, 8 position's byte (8 bytes), 16 its bit (4), 20 a
+//! number of 32 bits, 24 one of 64, 32 the input (24), 56 the output before (24), 80 the output after (24), 104 the
+//! value, 112 and 120 the position after, 125 to 127 what the record is aimed at, 128 vectors (24). A refused call has
+//! its value 0 and its position and output as they were, a refused bin is zeros. Channels are in record_channels.rs.
 //!
-//! write_aht_channel: start, end, mode and count are the small arguments, the payload the number of 32 bits, the
-//! gains the eight bytes from 24 on, the row the input; the output has 24 places, and 7 tells how many numbers the
-//! vectors have. read_aht_channel: start, end and, after the call, mode and count are the small arguments; the row,
-//! of at most two bins, stands in the output's place, 7 tells how many; after the call the gains stand at 80, values
-//! at 128 (48), exact values at 176 (48) and indices at 224 (4), each byte 0x42 before it; the value is the bits of
-//! the field. plan_write_read: the Rust's plan, its field and what its reading functions show of that. start, mode
-//! and count are the first, third and fourth small argument, end stands at 112 (8), the payload is the number of 32
-//! bits; the row, of at most two bins, stands at 24, 6 tells how many; the vectors stand at 32 (48), 7 tells how many
-//! numbers; the output's 24 places, each 0x42 before the call, stand at 80; the gains stand at 228 (24), the rest as
-//! for read_aht_channel.
+//! Of each function first the calls that are aimed at something, then 250 drawn at random.
 use crate::eac3::{aht, ahtenc};
 use crate::random::Random;
-use crate::shown;
-use crate::signals::{aimed, allowed, bin_of, cause, channel, code_of, component, outside, vectors};
+use crate::record_channels;
+use crate::signals::{aimed, allowed, bin_of, book_size, code_of, component, nudged, outside};
 use oxideav_core::bits::{BitReader, BitWriter};
-use std::io::Write;
+
+/// What a record is aimed at, at its place 127; tests/reach has their names, and wants each of them.
+pub mod aim {
+    /// Two causes hold; which ones stands at 125 and 126.
+    pub const TWO_CAUSES: u8 = 1;
+    /// A position of 2^32 bytes or more, whose number of bits may not fit 64 bits.
+    pub const FAR: u8 = 2;
+    /// A search whose answer another order of the sum, another width or a fused operation changes.
+    pub const NEAR_TIE: u8 = 3;
+    /// Two vectors of a book equally far.
+    pub const TIE: u8 = 4;
+    /// A component that is NaN or infinite.
+    pub const NO_NUMBER: u8 = 5;
+    /// hebap 18 at 16379 / 32768, where exact errors would pick another code.
+    pub const INEXACT: u8 = 6;
+    /// The lowest code at Gk 1.
+    pub const LOWEST_CODE: u8 = 7;
+    /// Six or more bins, with more than 28 bytes ahead of most.
+    pub const LONG: u8 = 8;
+    /// Two group words or more, the last one not full.
+    pub const GROUP_WORDS: u8 = 9;
+    /// Two group words or more, all full.
+    pub const FULL_GROUPS: u8 = 10;
+    /// start above 0.
+    pub const LATER_START: u8 = 11;
+    /// A plan that is not the best.
+    pub const OTHER_PLAN: u8 = 12;
+    /// Cause 6 by the mode, the count, a gain or the payload alone.
+    pub const WRONG_MODE: u8 = 13;
+    pub const WRONG_COUNT: u8 = 14;
+    pub const WRONG_GAIN: u8 = 15;
+    pub const WRONG_PAYLOAD: u8 = 16;
+    /// Cause 3 by one buffer alone.
+    pub const SHORT_ROW: u8 = 17;
+    pub const SHORT_VECTORS: u8 = 18;
+    pub const SHORT_VALUES: u8 = 19;
+    pub const SHORT_EXACT: u8 = 20;
+    pub const SHORT_INDICES: u8 = 21;
+    /// An output, or an input, of which just the last bit is missing.
+    pub const BIT_SHORT: u8 = 22;
+    /// 1024 in size, and the next f32 above.
+    pub const LIMIT: u8 = 23;
+    /// Half way between two codes, or nearly; where a code stops being small.
+    pub const HALF: u8 = 24;
+}
+
+/// Positions that no buffer reaches; 2^61 bytes are 2^64 bits, which would wrap to 0.
+pub const FAR: [(usize, u32); 6] = [(1 << 32, 0), (1 << 61, 0), ((1 << 61) - 1, 15), (usize::MAX, u32::MAX), (0, u32::MAX), (usize::MAX - 1, 16)];
+
+/// Components that are no numbers; the replay has one NaN for all of them.
+pub const NO_NUMBERS: [f32; 4] = [f32::NAN, f32::INFINITY, f32::NEG_INFINITY, -f32::NAN];
 
 struct Record([u8; 256]);
 
@@ -32,6 +74,14 @@ impl Record {
         let mut r = [0; 256];
         r[0] = function;
         Record(r)
+    }
+    fn aim(mut self, at: u8) -> Self {
+        self.0[127] = at;
+        self
+    }
+    fn two(mut self, a: u8, b: u8) -> Self {
+        self.0[125..128].copy_from_slice(&[a, b, aim::TWO_CAUSES]);
+        self
     }
     fn args(mut self, args: &[u8]) -> Self {
         self.0[2..2 + args.len()].copy_from_slice(args);
@@ -47,6 +97,11 @@ impl Record {
         let over = over.min(at / 8);
         self.0[8..16].copy_from_slice(&(at / 8 - over).to_le_bytes());
         self.0[16..20].copy_from_slice(&((at % 8 + 8 * over) as u32).to_le_bytes());
+        self
+    }
+    fn position(mut self, (byte, bit): (usize, u32)) -> Self {
+        self.0[8..16].copy_from_slice(&byte.to_le_bytes());
+        self.0[16..20].copy_from_slice(&bit.to_le_bytes());
         self
     }
     fn arg32(mut self, v: u32) -> Self {
@@ -70,23 +125,12 @@ impl Record {
         }
         self
     }
-    /// The vectors; how many numbers they have stands with the length of the output.
+    /// The components.
     fn vectors(mut self, x: &[f32]) -> Self {
-        self.0[7] = x.len() as u8;
-        for (place, v) in self.0[128..].chunks_exact_mut(4).zip(x) {
+        for (place, v) in self.0[128..152].chunks_exact_mut(4).zip(x) {
             place.copy_from_slice(&v.to_bits().to_le_bytes());
         }
         self
-    }
-    /// Values, exact values and indices of the bins from start on.
-    fn show(&mut self, s: &shown::Shown, start: usize) {
-        for k in 0..s.values.len() {
-            self.0[128 + 4 * (6 * start + k)..][..4].copy_from_slice(&s.values[k].to_bits().to_le_bytes());
-            self.0[176 + 4 * (6 * start + k)..][..4].copy_from_slice(&s.exact[k].to_le_bytes());
-        }
-        for k in 0..s.indices.len() {
-            self.0[224 + 2 * (start + k)..][..2].copy_from_slice(&s.indices[k].to_le_bytes());
-        }
     }
     fn answer(mut self, refusal: u8, value: usize, next: usize) -> Self {
         self.0[1] = refusal;
@@ -97,23 +141,268 @@ impl Record {
     }
 }
 
-/// 250 calls of each function; those of a channel go to the second file.
-pub fn write(seed: u64, path: &str, path_channels: &str) {
+/// The records of one function, and how many.
+pub struct Records {
+    pub name: &'static str,
+    pub bytes: Vec<u8>,
+    pub count: usize,
+}
+
+const NAMES: [&str; 18] = [
+    "", "read_u32", "write_u32", "hebap_from_address", "endbap_for_gaqmod", "fill_gaqbin", "gaq_sections", "gaq_gain_value", "read_gaq_gains",
+    "read_scalar_aht_mantissas", "vq_lookup", "vq_search", "quantise_scalar", "quantise_bin", "", "", "", "read_three",
+];
+
+/// Writes the files stdin, and stdout as it is when no answer is wrong, of both programs.
+pub fn write(seed: u64, crates: &str) {
     let mut random = Random::new(seed);
-    let (mut calls, mut channels) = (Vec::new(), Vec::new());
-    for f in 1..=18u8 {
-        let out = if matches!(f, 14..=16 | 18) { &mut channels } else { &mut calls };
-        for i in 0..250 {
-            out.push(one(f, i, &mut random));
+    let calls = (1..=13).chain([17]).map(|f| {
+        let mut records = special(f, &mut random);
+        records.extend((0..250).map(|i| one(f, i, &mut random)));
+        Records { name: NAMES[f as usize], bytes: records.iter().flat_map(|r| r.0).collect(), count: records.len() }
+    });
+    let calls: Vec<Records> = calls.collect();
+    let channels = record_channels::records(&mut random);
+    for (program, all) in [("replay", &calls), ("replay_channels", &channels)] {
+        let stdin: Vec<u8> = all.iter().flat_map(|r| r.bytes.iter().copied()).collect();
+        let stdout: String = all.iter().map(|r| format!("{}: {} answers, 0 wrong\n", r.name, r.count)).collect();
+        std::fs::write(format!("{crates}/{program}/stdin"), stdin).expect("the list can be written");
+        std::fs::write(format!("{crates}/{program}/stdout"), stdout).expect("the list can be written");
+        println!("record: {} answers of the Rust for {program}, seed {seed}", all.iter().map(|r| r.count).sum::<usize>());
+    }
+}
+
+/// The calls of a function that are aimed at something.
+fn special(f: u8, random: &mut Random) -> Vec<Record> {
+    let src = random.bytes(9);
+    let mut out = Vec::new();
+    match f {
+        // read_u32
+        1 => {
+            for (n, at) in [(33, 73), (64, 80), (255, 73), (u32::MAX, 200), (33, 70)] {
+                out.push(Record::new(f).src(&src).at(at, 0).arg32(n).answer(12, 0, at).two(8, 12));
+            }
+            for p in FAR {
+                for n in [0, 1, 32] {
+                    out.push(Record::new(f).src(&src).position(p).arg32(n).answer(8, 0, 0).aim(aim::FAR));
+                }
+            }
+            for n in 1..=32 {
+                out.push(Record::new(f).src(&src).at(73 - n as usize, 0).arg32(n).answer(8, 0, 0).aim(aim::BIT_SHORT));
+            }
+        }
+        // write_u32
+        2 => {
+            for (n, at) in [(33, 73), (64, 80), (255, 73), (33, 70)] {
+                out.push(Record::new(f).at(at, 0).args(&[n]).out(&src, &src).answer(12, 0, at).two(7, 12));
+            }
+            for p in FAR {
+                for n in [0, 1, 32] {
+                    out.push(Record::new(f).position(p).args(&[n]).out(&src, &src).answer(7, 0, 0).aim(aim::FAR));
+                }
+            }
+            for n in 1..=32 {
+                out.push(Record::new(f).at(73 - n as usize, 0).args(&[n]).out(&src, &src).answer(7, 0, 0).aim(aim::BIT_SHORT));
+            }
+        }
+        // read_three: the first number that is refused decides
+        17 => {
+            for (widths, number, a, b) in [([33, 0, 0], 12, 12, 8), ([40, 32, 32], 12, 12, 8), ([32, 32, 33], 8, 8, 12), ([32, 41, 32], 12, 12, 8)] {
+                let at = if number == 12 && widths[0] > 32 { 73 } else { 40 };
+                let at = if widths == [32, 41, 32] { 8 } else { at };
+                out.push(Record::new(f).src(&src).at(at, 0).args(&widths).answer(number, 0, at).two(a, b));
+            }
+            for p in FAR {
+                out.push(Record::new(f).src(&src).position(p).args(&[0, 0, 0]).answer(8, 0, 0).aim(aim::FAR));
+            }
+            for widths in [[32, 32, 9], [1, 32, 32], [5, 5, 5]] {
+                let at = 73 - widths.iter().map(|&n| n as usize).sum::<usize>();
+                out.push(Record::new(f).src(&src).at(at, 0).args(&widths).answer(8, 0, at).aim(aim::BIT_SHORT));
+            }
+        }
+        // read_gaq_gains
+        8 => {
+            let before = random.bytes(6);
+            for mode in [4, 5, 255] {
+                out.push(Record::new(f).src(&src).at(73, 0).args(&[mode]).arg64(6).out(&before, &before).answer(12, 0, 73).two(8, 12));
+            }
+            for p in FAR {
+                for mode in 0..4 {
+                    out.push(Record::new(f).src(&src).position(p).args(&[mode]).arg64(2).out(&before, &before).answer(8, 0, 0).aim(aim::FAR));
+                }
+            }
+            for (mode, sections, bits) in [(1, 6, 6), (2, 6, 6), (3, 6, 30), (3, 1, 5)] {
+                let at = 73 - bits;
+                out.push(Record::new(f).src(&src).at(at, 0).args(&[mode]).arg64(sections).out(&before, &before).answer(8, 0, at).aim(aim::BIT_SHORT));
+            }
+        }
+        // read_scalar_aht_mantissas
+        9 => {
+            let kept = [0x42u8; 24];
+            let at = 73;
+            for (hebap, mode, number, a, b) in [(20, 4, 12, 4, 12), (255, 255, 12, 4, 12), (8, 4, 12, 8, 12), (0, 9, 12, 8, 12), (20, 3, 4, 4, 8), (255, 0, 4, 4, 8)] {
+                let at = if b == 8 || a == 8 { at } else { 0 };
+                out.push(Record::new(f).src(&src).at(at, 0).args(&[hebap, mode, 1, 0]).out(&kept, &kept).answer(number, 0, at).two(a, b));
+            }
+            for p in FAR {
+                for hebap in [0, 5, 8, 19] {
+                    out.push(Record::new(f).src(&src).position(p).args(&[hebap, 0, 0, 0]).out(&kept, &kept).answer(8, 0, 0).aim(aim::FAR));
+                }
+            }
+            for hebap in 8..=19 {
+                let m = u32::from(aht::HEBAP_MANT_BITS[hebap as usize]);
+                let mut w = BitWriter::new();
+                for k in 0..6u32 {
+                    w.write_u32(if k % 2 == 0 { 1 << (m - 1) } else { k }, m);
+                }
+                let src = w.finish();
+                out.push(scalar(f, &src, 0, 0, hebap, 0, 0, 0).aim(aim::LOWEST_CODE));
+                let short = scalar(f, &src[..(6 * m as usize - 1) / 8], 0, 0, hebap, 0, 0, 0);
+                assert_eq!(short.0[1], 8);
+                out.push(short.aim(aim::BIT_SHORT));
+            }
+        }
+        // vq_search
+        11 => {
+            for hebap in 1..=7 {
+                for other in OTHERS {
+                    for x in nearly_tied(hebap, other, random) {
+                        let index = ahtenc::vq_search(hebap, &x);
+                        let at = if other as usize == last as usize { aim::TIE } else { aim::NEAR_TIE };
+                        out.push(Record::new(f).args(&[hebap]).vectors(&x).answer(0, index, 0).aim(at));
+                    }
+                }
+            }
+            for hebap in [0, 1, 2, 3, 4, 5, 6, 7, 8, 19, 255u8] {
+                for (j, bad) in NO_NUMBERS.into_iter().enumerate() {
+                    let mut x = [0.25f32; 6];
+                    x[(j + hebap as usize) % 6] = bad;
+                    let r = Record::new(f).args(&[hebap]).vectors(&x);
+                    out.push(if book_size(hebap) > 0 { r.answer(5, 0, 0) } else { r.answer(0, ahtenc::vq_search(hebap, &x), 0) }.aim(aim::NO_NUMBER));
+                }
+            }
+            for (j, x) in limits().into_iter().enumerate() {
+                let hebap = 1 + (j % 7) as u8;
+                let mut v = [0.1f32; 6];
+                v[j % 6] = x;
+                let r = Record::new(f).args(&[hebap]).vectors(&v);
+                out.push(if outside(x) { r.answer(5, 0, 0) } else { r.answer(0, ahtenc::vq_search(hebap, &v), 0) }.aim(aim::LIMIT));
+            }
+        }
+        // quantise_scalar and quantise_bin: every component of a bin in turn
+        12 | 13 => {
+            let each = |x: f32, hebap: u8, gk: u8, j: usize| {
+                let mut six = [0.1f32; 6];
+                six[j % 6] = x;
+                if f == 12 { quantised(f, hebap, gk, x) } else { quantised_bin(f, hebap, gk, six) }
+            };
+            let x = 16379.0 / 32768.0;
+            assert_eq!((code_of(18, 1, x).1, code_of(18, 1, -x).1), (4094, 16384 - 4095), "the code that f32 errors pick");
+            for j in 0..6 {
+                out.push(each(x, 18, 1, j).aim(aim::INEXACT));
+            }
+            let halves = [
+                (8, 2, 0.125),
+                (8, 2, -0.125),
+                (8, 2, 0.375),
+                (8, 2, -0.375),
+                (8, 2, -0.374995),
+                (8, 4, 0.125),
+                (8, 4, nudged(0.125, -1)),
+                (9, 2, 0.375),
+                (9, 2, 0.4375),
+                (9, 2, -0.4375),
+                (10, 2, 2.5 / 16.0),
+                (10, 4, -1.5 / 16.0),
+                (19, 1, 1.0 / 65536.0),
+                (19, 1, -1.0 / 65536.0),
+            ];
+            for (j, (hebap, gk, x)) in halves.into_iter().enumerate() {
+                out.push(each(x, hebap, gk, j).aim(aim::HALF));
+            }
+            for (j, bad) in NO_NUMBERS.into_iter().enumerate() {
+                for (hebap, gk) in [(7, 1), (20, 1), (8, 3), (16, 0), (17, 2), (19, 4), (0, 0), (255, 255)] {
+                    let r = each(bad, hebap, gk, j);
+                    assert_eq!(r.0[1], 11);
+                    out.push(r.two(5, 11));
+                }
+                for (hebap, gk) in [(8, 1), (12, 2), (16, 4), (19, 1)] {
+                    let r = each(bad, hebap, gk, j + hebap as usize);
+                    assert_eq!(r.0[1], 5);
+                    out.push(r.aim(aim::NO_NUMBER));
+                }
+            }
+            for (j, x) in limits().into_iter().enumerate() {
+                out.push(each(x, 8 + (j % 9) as u8, [1, 2, 4][j % 3], j).aim(aim::LIMIT));
+            }
+        }
+        _ => {}
+    }
+    out
+}
+
+/// The ends of the domain and their neighbours.
+pub fn limits() -> [f32; 6] {
+    [1024.0, -1024.0, nudged(1024.0, 1), -nudged(1024.0, 1), nudged(1024.0, -1), -nudged(1024.0, -1)]
+}
+
+/// Searches that are nearly the Rust's: the last two components added in the other order, all of them backwards, in
+/// f64, with fused operations, and the last of equals taken.
+type Search = fn(&[[f32; 6]], &[f32; 6]) -> usize;
+const OTHERS: [Search; 5] = [exchanged, backwards, wider, fused, last];
+
+fn first_least(d: impl Iterator<Item = f64>) -> usize {
+    d.enumerate().fold((0, f64::INFINITY), |best, (i, d)| if d < best.1 { (i, d) } else { best }).0
+}
+
+fn in_order(book: &[[f32; 6]], x: &[f32; 6], order: [usize; 6]) -> usize {
+    first_least(book.iter().map(|v| f64::from(order.iter().fold(0f32, |sum, &j| sum + (x[j] - v[j]) * (x[j] - v[j])))))
+}
+
+fn exchanged(book: &[[f32; 6]], x: &[f32; 6]) -> usize {
+    in_order(book, x, [0, 1, 2, 3, 5, 4])
+}
+
+fn backwards(book: &[[f32; 6]], x: &[f32; 6]) -> usize {
+    in_order(book, x, [5, 4, 3, 2, 1, 0])
+}
+
+fn wider(book: &[[f32; 6]], x: &[f32; 6]) -> usize {
+    first_least(book.iter().map(|v| (0..6).map(|j| (f64::from(x[j]) - f64::from(v[j])).powi(2)).sum()))
+}
+
+fn fused(book: &[[f32; 6]], x: &[f32; 6]) -> usize {
+    first_least(book.iter().map(|v| f64::from((0..6).fold(0f32, |sum, j| (x[j] - v[j]).mul_add(x[j] - v[j], sum)))))
+}
+
+fn last(book: &[[f32; 6]], x: &[f32; 6]) -> usize {
+    let d = |v: &[f32; 6]| (0..6).fold(0f32, |sum, j| sum + (x[j] - v[j]) * (x[j] - v[j]));
+    (0..book.len()).fold((0, f32::INFINITY), |best, i| if d(&book[i]) <= best.1 { (i, d(&book[i])) } else { best }).0
+}
+
+/// Two vectors for which another search answers something else than the Rust's: half way between neighbours of a
+/// book, a few steps off.
+fn nearly_tied(hebap: u8, other: Search, random: &mut Random) -> Vec<[f32; 6]> {
+    let book: Vec<[f32; 6]> = (0..book_size(hebap)).map(|i| aht::vq_lookup(hebap, i)).collect();
+    let mut out = Vec::new();
+    while out.len() < 2 {
+        let i = random.below(book.len());
+        let distance = |j: &usize| (0..6).map(|k| (book[i][k] - book[*j][k]).powi(2)).sum::<f32>();
+        let mut by: Vec<usize> = (0..book.len()).filter(|&j| j != i).collect();
+        by.sort_by(|a, b| distance(a).total_cmp(&distance(b)));
+        for &j in &by[..by.len().min(3)] {
+            // multiples of 2^-17 have ties, others near ones
+            let whole = random.below(2) == 0;
+            let x = core::array::from_fn(|k| {
+                let mid = (book[i][k] + book[j][k]) / 2.0;
+                if whole { mid + random.below(3) as f32 / 131072.0 } else { nudged(mid, random.below(5) as i32 - 2) }
+            });
+            if other(&book, &x) != ahtenc::vq_search(hebap, &x) && out.len() < 2 {
+                out.push(x);
+            }
         }
     }
-    for (path, out) in [(path, &calls), (path_channels, &channels)] {
-        let mut file = std::fs::File::create(path).expect("the list can be written");
-        for r in out {
-            file.write_all(&r.0).expect("the list can be written");
-        }
-        println!("record: {} answers of the Rust, seed {seed}", out.len());
-    }
+    out
 }
 
 fn one(f: u8, i: usize, random: &mut Random) -> Record {
@@ -253,222 +542,17 @@ fn one(f: u8, i: usize, random: &mut Random) -> Record {
             let r = Record::new(f).args(&[hebap]).vectors(&x);
             if (1..=7).contains(&hebap) && x.iter().any(|&v| outside(v)) { r.answer(5, 0, 0) } else { r.answer(0, ahtenc::vq_search(hebap, &x), 0) }
         }
-        // quantise_scalar: every hebap and gain; the last byte of the arguments says whether the code is large
+        // quantise_scalar: every hebap and gain
         12 => {
             let (hebap, gk) = gain_of(i);
             let x = six(random, i, |random| if allowed(hebap, gk) { aimed(random, hebap, gk) } else { component(random) })[i % 6];
-            let r = Record::new(f).vectors(&[x]);
-            if !allowed(hebap, gk) {
-                return r.args(&[hebap, gk]).answer(11, 0, 0);
-            }
-            if outside(x) {
-                return r.args(&[hebap, gk]).answer(5, 0, 0);
-            }
-            let (large, code, _, y) = code_of(hebap, gk, x);
-            r.args(&[hebap, gk, large]).floats(&[y, 0.0, 0.0, 0.0, 0.0, 0.0]).answer(0, code as usize, 0)
+            quantised(f, hebap, gk, x)
         }
-        // quantise_bin: the error stands as the number of 32 bits
+        // quantise_bin
         13 => {
             let (hebap, gk) = gain_of(i);
             let x = six(random, i, |random| if allowed(hebap, gk) && random.below(2) == 0 { aimed(random, hebap, gk) } else { component(random) });
-            let r = Record::new(f).args(&[hebap, gk]).vectors(&x);
-            if !allowed(hebap, gk) {
-                return r.answer(11, 0, 0);
-            }
-            if x.iter().any(|&v| outside(v)) {
-                return r.answer(5, 0, 0);
-            }
-            let (bits, err, values) = bin_of(hebap, gk, &x);
-            r.arg32(err.to_bits()).floats(&values).answer(0, bits as usize, 0)
-        }
-        // plan_aht_channel: start at the position's byte, end as the number of 64 bits; the mode is the fourth
-        // argument, the count the byte after
-        14 => {
-            let bins = if i % 10 == 0 { 0 } else { 1 + random.below(5) };
-            let (mut row, mut x) = channel(random, bins);
-            let (mut start, mut end) = (0, bins);
-            match i % 12 {
-                1 => start = random.below(bins + 2),
-                2 => end = random.pick(&[256, 257, usize::MAX]),
-                3 if bins > 0 => row[random.below(bins)] = 20 + random.below(236) as u8,
-                4 if bins > 0 => x[random.below(6 * bins)] = random.pick(&[f32::INFINITY, -1025.0, 1024.0]),
-                5 => x.truncate(random.below(6 * bins + 1)),
-                6 => row.truncate(random.below(bins + 1)),
-                _ => {}
-            }
-            let r = Record::new(f).at(8 * start, 0).arg64(end).src(&row).vectors(&x);
-            let number = cause(&row, start, end, &x);
-            if number > 0 {
-                return r.answer(number, 0, 0);
-            }
-            let p = ahtenc::plan_aht_channel(&row, start, end, &vectors(&x));
-            let mut r = r.args(&[0, 0, 0, p.gaqmod]).answer(0, p.payload_bits as usize, 8 * p.gains.len());
-            for (place, &code) in r.0[80..104].iter_mut().zip(&p.gains) {
-                *place = [1, 2, 4][code as usize];
-            }
-            r
-        }
-        // write_aht_channel: the Rust's plan, at times spoiled
-        15 => {
-            let bins = random.below(4);
-            let (mut row, mut x) = channel(random, bins);
-            if i % 2 == 0 {
-                row.iter_mut().for_each(|h| *h = (*h).min(9));
-            }
-            let (start, end) = (0, bins);
-            let plan = ahtenc::plan_aht_channel(&row, start, end, &vectors(&x));
-            let total = 2 + plan.payload_bits as usize;
-            let (mut payload, mut mode) = (plan.payload_bits, plan.gaqmod);
-            match i % 12 {
-                1 => payload = payload.wrapping_add(random.pick(&[1, u32::MAX, 5])),
-                3 if bins > 0 => row[random.below(bins)] = 20 + random.below(236) as u8,
-                5 if bins > 0 => x[random.below(6 * bins)] = random.pick(&[f32::INFINITY, -1025.0]),
-                7 => x.truncate(random.below(6 * bins + 1)),
-                9 => mode = 4,
-                _ => {}
-            }
-            let at = random.below(193usize.saturating_sub(total).max(1)) + if i % 11 == 0 { 30 } else { 0 };
-            let before = random.bytes(24);
-            let mut r = Record::new(f).src(&row).vectors(&x).at(at, over).arg32(payload).args(&[start as u8, end as u8, mode, plan.gains.len() as u8]);
-            for (place, &code) in r.0[24..32].iter_mut().zip(&plan.gains) {
-                *place = [1, 2, 4][code as usize];
-            }
-            r.0[56..80].copy_from_slice(&before);
-            r.0[80..104].copy_from_slice(&before);
-            let number = match cause(&row, start, end, &x) {
-                0 if mode != plan.gaqmod || payload != plan.payload_bits => 6,
-                0 if at + total > 8 * 24 => 7,
-                n => n,
-            };
-            if number > 0 {
-                return r.answer(number, 0, at);
-            }
-            let mut w = BitWriter::new();
-            let mut b = BitReader::new(&before);
-            for _ in 0..at {
-                w.write_u32(b.read_u32(1).unwrap(), 1);
-            }
-            ahtenc::write_aht_channel(&mut w, &plan, &row, start, end, &vectors(&x));
-            let mut b = BitReader::at(&before, at + total).unwrap();
-            while let Ok(bit) = b.read_u32(1) {
-                w.write_u32(bit, 1);
-            }
-            r.0[80..104].copy_from_slice(&w.finish());
-            r.answer(0, 0, at + total)
-        }
-        // read_aht_channel: fields of the Rust, then any bits
-        16 => {
-            let bins = random.below(3);
-            let (mut row, x) = channel(random, bins);
-            let (mut start, mut end) = (0, bins);
-            let plan = ahtenc::plan_aht_channel(&row, start, end, &vectors(&x));
-            let mut w = BitWriter::new();
-            let before = random.below(8);
-            w.write_u32(random.next() as u32, before as u32);
-            ahtenc::write_aht_channel(&mut w, &plan, &row, start, end, &vectors(&x));
-            let mut src = w.finish();
-            src.truncate(24);
-            if i % 2 == 1 {
-                src = random.bytes(len.max(4));
-            }
-            if i % 4 == 1 {
-                // mode 3, so that gain words are met, half of them from 24 on
-                for k in before..before + if i % 8 == 1 { 4 } else { 2 } {
-                    src[k / 8] |= 1 << (7 - k % 8);
-                }
-            }
-            let at = if i % 9 == 0 { at } else { before };
-            match i % 14 {
-                1 => end = bins + 1,
-                3 => start = end + 1,
-                5 if bins > 0 => row[random.below(bins)] = 20,
-                7 if bins > 0 => start = random.below(bins),
-                _ => {}
-            }
-            let mut r = Record::new(f).src(&src).at(at, over);
-            r.0[7] = bins as u8;
-            r.0[56..56 + bins].copy_from_slice(&row);
-            r.0[128..228].fill(0x42);
-            let number = if start > end {
-                1
-            } else if end > bins {
-                3
-            } else if row[start..end].iter().any(|&h| h > 19) {
-                4
-            } else {
-                0
-            };
-            if number > 0 {
-                return r.args(&[start as u8, end as u8]).answer(number, 0, 0);
-            }
-            match shown::read(&src, at, &row[start..end]) {
-                Err(number) => r.args(&[start as u8, end as u8]).answer(number, 0, 0),
-                Ok(s) => {
-                    r.0[80..80 + s.gains.len()].copy_from_slice(&s.gains);
-                    r.show(&s, start);
-                    r.args(&[start as u8, end as u8, s.mode, s.gains.len() as u8]).answer(0, s.bits, 0)
-                }
-            }
-        }
-        // plan_write_read: faults that refuse with 1 to 5 and 7, each in turn
-        18 => {
-            let bins = if i % 10 == 0 { random.below(2) } else { 2 };
-            let (mut row, mut x) = channel(random, bins);
-            if i % 2 == 0 {
-                row.iter_mut().for_each(|h| *h = (*h).min(9));
-            }
-            let (mut start, mut end) = (0, bins);
-            match i % 14 {
-                1 => start = end + 1,
-                3 => end = bins + 1,
-                5 if bins > 0 => row[random.below(bins)] = 20 + random.below(236) as u8,
-                7 if bins > 0 => x[random.below(6 * bins)] = random.pick(&[f32::INFINITY, -1025.0]),
-                9 => x.truncate(random.below(6 * bins + 1)),
-                11 if bins > 0 => start = random.below(bins),
-                13 => (start, end) = (255, 257),
-                _ => {}
-            }
-            // the vectors go to their own place, so that their other one is free for the values
-            let mut r = Record::new(f);
-            r.0[6] = bins as u8;
-            r.0[7] = x.len() as u8;
-            r.0[24..24 + bins].copy_from_slice(&row);
-            for (place, v) in r.0[32..80].chunks_exact_mut(4).zip(&x) {
-                place.copy_from_slice(&v.to_bits().to_le_bytes());
-            }
-            let before = [0x42u8; 24];
-            r.0[80..104].copy_from_slice(&before);
-            r.0[128..228].fill(0x42);
-            let number = cause(&row, start, end, &x);
-            let at = random.below(60) + if i % 11 == 0 { 150 } else { 0 };
-            let r = r.at(at, over);
-            if number > 0 {
-                return r.args(&[start as u8]).answer(number, 0, 8 * end);
-            }
-            let plan = ahtenc::plan_aht_channel(&row, start, end, &vectors(&x));
-            let total = 2 + plan.payload_bits as usize;
-            if at + total > 8 * 24 {
-                return r.args(&[start as u8]).answer(7, 0, 8 * end);
-            }
-            let mut w = BitWriter::new();
-            let mut b = BitReader::new(&before);
-            for _ in 0..at {
-                w.write_u32(b.read_u32(1).unwrap(), 1);
-            }
-            ahtenc::write_aht_channel(&mut w, &plan, &row, start, end, &vectors(&x));
-            let mut b = BitReader::at(&before, at + total).unwrap();
-            while let Ok(bit) = b.read_u32(1) {
-                w.write_u32(bit, 1);
-            }
-            let field = w.finish();
-            let s = shown::read(&field, at, &row[start..end]).expect("the Rust reads what it wrote");
-            let gains: Vec<u8> = plan.gains.iter().map(|&code| [1, 2, 4][code as usize]).collect();
-            assert_eq!((s.mode, &s.gains, s.bits), (plan.gaqmod, &gains, total), "the Rust's field shows its plan");
-            let mut r = r.arg32(plan.payload_bits);
-            r.0[80..104].copy_from_slice(&field);
-            r.show(&s, start);
-            r.0[228..228 + gains.len()].copy_from_slice(&gains);
-            r.args(&[start as u8, 0, s.mode, gains.len() as u8]).answer(0, s.bits, 8 * end)
+            quantised_bin(f, hebap, gk, x)
         }
         // read_scalar_aht_mantissas: first every hebap and gain, with codes chosen so that half of them are behind
         // the tag
@@ -523,6 +607,32 @@ fn scalar(f: u8, src: &[u8], at: usize, over: usize, hebap: u8, mode: u8, gaqbin
         }
         Err(_) => r.out(&before, &before).answer(8, 0, at),
     }
+}
+
+/// The last of the small arguments says whether the code is large.
+fn quantised(f: u8, hebap: u8, gk: u8, x: f32) -> Record {
+    let r = Record::new(f).vectors(&[x]);
+    if !allowed(hebap, gk) {
+        return r.args(&[hebap, gk]).answer(11, 0, 0);
+    }
+    if outside(x) {
+        return r.args(&[hebap, gk]).answer(5, 0, 0);
+    }
+    let (large, code, _, y) = code_of(hebap, gk, x);
+    r.args(&[hebap, gk, large]).floats(&[y, 0.0, 0.0, 0.0, 0.0, 0.0]).answer(0, code as usize, 0)
+}
+
+/// The error stands as the number of 32 bits.
+fn quantised_bin(f: u8, hebap: u8, gk: u8, x: [f32; 6]) -> Record {
+    let r = Record::new(f).args(&[hebap, gk]).vectors(&x);
+    if !allowed(hebap, gk) {
+        return r.answer(11, 0, 0);
+    }
+    if x.iter().any(|&v| outside(v)) {
+        return r.answer(5, 0, 0);
+    }
+    let (bits, err, values) = bin_of(hebap, gk, &x);
+    r.arg32(err.to_bits()).floats(&values).answer(0, bits as usize, 0)
 }
 
 /// Every hebap from 7 to 20 with every gain, and one that is none.

@@ -1,6 +1,7 @@
 //! Components, channels and what the Rust makes of them: for the comparison and for the recorded answers.
 use crate::eac3::{aht, ahtenc};
 use crate::random::Random;
+use oxideav_core::bits::BitWriter;
 
 pub fn book_size(hebap: u8) -> usize {
     if (1..=7).contains(&hebap) { 1 << aht::VQ_BITS[hebap as usize] } else { 0 }
@@ -22,6 +23,11 @@ pub fn nudged(x: f32, n: i32) -> f32 {
         key = i32::MIN - key;
     }
     f32::from_bits(key as u32)
+}
+
+/// What stands in a lent output of six f32 before a call: signalling NaNs, whose bits must be kept too.
+pub fn kept() -> [f32; 6] {
+    core::array::from_fn(|i| f32::from_bits(0x7fa0_0001 + i as u32))
 }
 
 pub fn unit(random: &mut Random) -> f32 {
@@ -145,4 +151,68 @@ pub fn bin_of(hebap: u8, gk: u8, x: &[f32; 6]) -> (u32, f32, [f32; 6]) {
         values[j] = y;
     }
     (bits, err, values)
+}
+
+/// The Rust's plan, or a mode and gains drawn at will with the bits that the Rust's codes have.
+pub fn some_plan(random: &mut Random, row: &[u8], start: usize, end: usize, x: &[f32]) -> ahtenc::AhtChannelPlan {
+    if random.below(2) == 0 {
+        return ahtenc::plan_aht_channel(row, start, end, &vectors(x));
+    }
+    let mode = random.below(4) as u8;
+    let allowed: &[u8] = [&[0u8][..], &[0, 1], &[0, 2], &[0, 1, 2]][mode as usize];
+    let (mut gains, mut bits) = (Vec::new(), 0);
+    for k in start..end {
+        let v: [f32; 6] = x[6 * k..6 * k + 6].try_into().unwrap();
+        bits += match row[k] {
+            0 => 0,
+            h @ 1..=7 => u32::from(aht::VQ_BITS[h as usize]),
+            h => {
+                let active = mode > 0 && h < aht::endbap_for_gaqmod(mode);
+                if active {
+                    gains.push(random.pick(allowed));
+                }
+                let gk = if active { [1, 2, 4][*gains.last().unwrap() as usize] } else { 1 };
+                bin_of(h, gk, &v).0
+            }
+        };
+    }
+    let words = aht::gaq_sections(mode, gains.len()) as u32 * if mode == 3 { 5 } else { 1 };
+    ahtenc::AhtChannelPlan { gaqmod: mode, gains, payload_bits: bits + words }
+}
+
+/// The bits of the Rust's field, put into the bytes from a position on.
+pub fn with_field(bytes: &[u8], at: usize, p: &ahtenc::AhtChannelPlan, row: &[u8], start: usize, end: usize, x: &[f32]) -> (Vec<u8>, usize) {
+    let mut w = BitWriter::new();
+    ahtenc::write_aht_channel(&mut w, p, row, start, end, &vectors(x));
+    let n = w.bits();
+    let field = w.finish();
+    let mut out = bytes.to_vec();
+    for i in 0..n {
+        let bit = field[i / 8] >> (7 - i % 8) & 1;
+        let byte = &mut out[(at + i) / 8];
+        let mask = 1 << (7 - (at + i) % 8);
+        *byte = if bit == 1 { *byte | mask } else { *byte & !mask };
+    }
+    (out, n)
+}
+
+/// The Rust's plan of these parts where they fit by the words of docs/FORMAT.md: mode, count, gains as Gk, payload.
+#[allow(clippy::too_many_arguments)]
+pub fn fitting(mode: u8, gains: &[u8], count: usize, payload: u32, row: &[u8], start: usize, end: usize, x: &[f32]) -> Option<ahtenc::AhtChannelPlan> {
+    if mode > 3 {
+        return None;
+    }
+    let active = |h: u8| mode > 0 && (8..aht::endbap_for_gaqmod(mode)).contains(&h);
+    if count != (start..end).filter(|&k| active(row[k])).count() {
+        return None;
+    }
+    let allowed: &[u8] = [&[1u8][..], &[1, 2], &[1, 4], &[1, 2, 4]][mode as usize];
+    if gains[..count].iter().any(|g| !allowed.contains(g)) {
+        return None;
+    }
+    let gains: Vec<u8> = gains[..count].iter().map(|g| g / 2).collect();
+    let theirs = ahtenc::AhtChannelPlan { gaqmod: mode, gains, payload_bits: payload };
+    let mut w = BitWriter::new();
+    ahtenc::write_aht_channel(&mut w, &theirs, row, start, end, &vectors(x));
+    (w.bits() == 2 + payload as usize).then_some(theirs)
 }

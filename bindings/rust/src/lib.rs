@@ -5,31 +5,33 @@
 //! for each bin, from bin 0 on. The **vectors** have six components for each bin, from bin 0 on, one behind the
 //! other: those of the bin k are the places `6 * k` to `6 * k + 5`. A call works on the bins `start` to `end - 1`.
 //!
-//! [`plan`] finds the mode and the gains of fewest bits, [`write()`] puts the field of a plan into an output, with
-//! exactly the bits that the plan announces, and [`read`] reads a field back. The small calls under them, such as
-//! [`search`], [`quantise_bin`] and [`read_u32`], are there too.
+//! [`plan_aht_channel`] finds the mode and the gains of fewest bits, [`write_aht_channel`] puts the field of a plan into
+//! an output, with exactly the bits that the plan announces, and [`read_aht_channel`] reads a field back. The small
+//! calls under them, such as [`vq_search`], [`quantise_bin`] and [`read_u32`], are there too. Functions and plan have
+//! the names of the Rust that the library was ported from; a plan's gains are Gk (1, 2, 4) here, not codes.
 //!
 //! ```
-//! use fathrugg::{plan, read, write, Plan, Position};
+//! use fathrugg::{plan_aht_channel, read_aht_channel, write_aht_channel, AhtChannelPlan, Position};
 //!
 //! let row = [8, 0];
 //! let mut vectors = [0.0; 12];
 //! vectors[..6].copy_from_slice(&[0.25, 0.0, -0.25, 0.0, 0.0, 0.0]);
 //!
-//! let best = plan(&row, 0, 2, &vectors)?;
-//! assert_eq!(best, Plan::new(1, &[2], 13));
-//! assert_eq!(best.total(), 15);
+//! let best = plan_aht_channel(&row, 0, 2, &vectors)?;
+//! assert_eq!(best, AhtChannelPlan::new(1, &[2], 13));
+//! assert_eq!(best.total_bits(), 15);
 //!
 //! let mut out = [0; 2];
-//! let mut position = Position::default();
-//! write(&best, &row, 0, 2, &vectors, &mut out, &mut position)?;
+//! let mut end = Position::default();
+//! write_aht_channel(&best, &row, 0, 2, &vectors, &mut out, &mut end)?;
 //! assert_eq!(out, [0x69, 0x80]);
-//! assert_eq!(position, Position { byte: 1, bit: 7 });
+//! assert_eq!(end, Position { byte: 1, bit: 7 });
 //!
 //! let (mut values, mut exact, mut indices) = ([0.0; 12], [0; 12], [0; 2]);
-//! let channel = read(&out, Position::default(), &row, 0, 2, &mut values, &mut exact, &mut indices)?;
-//! assert_eq!((channel.mode(), channel.gains(), channel.bits()), (1, &[2][..], 15));
-//! assert_eq!(channel.next_position(), position);
+//! let mut position = Position::default();
+//! let channel = read_aht_channel(&out, &mut position, &row, 0, 2, &mut values, &mut exact, &mut indices)?;
+//! assert_eq!((channel.gaqmod(), channel.gains(), channel.bits()), (1, &[2][..], 15));
+//! assert_eq!(position, end);
 //! assert_eq!(values[..3], [0.25, 0.0, -0.25]);
 //! # Ok::<(), fathrugg::Refusal>(())
 //! ```
@@ -39,10 +41,14 @@
 //!
 //! What is proved is the library: that its functions meet their contracts for every input and stay inside their
 //! buffers. These declarations of them are not.
+//!
+//! It needs no `std`, takes no memory but the stack, and links on x86-64 Linux. Floating-point exceptions must be
+//! masked, as they are by default.
+#![no_std]
 #![warn(missing_docs)]
 
-use std::error::Error;
-use std::fmt;
+use core::error::Error;
+use core::fmt;
 
 /// The places for gains, one for each bin that there may be.
 const PLACES: usize = 256;
@@ -51,6 +57,7 @@ const PLACES: usize = 256;
 // the number of its refusal, 0 for none, asks nothing of its arguments but that the pointers are good, and keeps none
 // of them.
 extern "C" {
+    fn fathrugg_version() -> u32;
     fn fathrugg_plan_aht_channel(
         row: *const u8,
         row_len: usize,
@@ -82,8 +89,8 @@ extern "C" {
     fn fathrugg_read_aht_channel(
         src: *const u8,
         src_len: usize,
-        byte: usize,
-        bit: u32,
+        byte: *mut usize,
+        bit: *mut u32,
         row: *const u8,
         row_len: usize,
         start: usize,
@@ -136,57 +143,67 @@ extern "C" {
 
 /// Why a call refused.
 #[derive(Clone, Copy, Debug, PartialEq, Eq, Hash)]
-#[repr(u8)]
+#[non_exhaustive]
 pub enum Refusal {
     /// 1: start is above end.
-    StartAboveEnd = 1,
+    StartAboveEnd,
     /// 2: end is above 256.
-    EndAbove256 = 2,
+    EndAbove256,
     /// 3: the row, the vectors or an output is too short for the bins.
-    TooShort = 3,
+    TooShort,
     /// 4: a hebap is above 19.
-    HebapAbove19 = 4,
+    HebapAbove19,
     /// 5: a vector's component is NaN, infinite or above 1024 in size.
-    ComponentTooLarge = 5,
+    ComponentTooLarge,
     /// 6: the plan does not fit the row and the vectors.
-    PlanDoesNotFit = 6,
+    PlanDoesNotFit,
     /// 7: the output has too few bits from the position on, or the position is past its end.
-    OutputEnds = 7,
+    OutputEnds,
     /// 8: the input runs out, or the position is past its end.
-    InputEnds = 8,
+    InputEnds,
     /// 9: a group word of gains is above 26.
-    GroupWordAbove26 = 9,
+    GroupWordAbove26,
     /// 10: an unused code of the last group word is not 0.
-    UnusedCodeNotZero = 10,
+    UnusedCodeNotZero,
     /// 11: the quantiser is asked for a hebap or gain that it does not have.
-    UnknownToQuantiser = 11,
+    UnknownToQuantiser,
     /// 12: a mode is above 3, a count of bits above 32, or a mask outside -65536 to 65536.
-    ArgumentOutOfRange = 12,
+    ArgumentOutOfRange,
+    /// A number that this version has no name for: the library that is linked is a later one.
+    Other(u8),
 }
 
+/// The refusals that have a name, in the order of their numbers from 1 on.
+const NAMED: [Refusal; 12] = [
+    Refusal::StartAboveEnd,
+    Refusal::EndAbove256,
+    Refusal::TooShort,
+    Refusal::HebapAbove19,
+    Refusal::ComponentTooLarge,
+    Refusal::PlanDoesNotFit,
+    Refusal::OutputEnds,
+    Refusal::InputEnds,
+    Refusal::GroupWordAbove26,
+    Refusal::UnusedCodeNotZero,
+    Refusal::UnknownToQuantiser,
+    Refusal::ArgumentOutOfRange,
+];
+
 impl Refusal {
-    /// The number of the refusal, 1 to 12.
+    /// The number of the refusal, as include/fathrugg.h has it.
     pub fn number(self) -> u8 {
-        self as u8
+        match self {
+            Refusal::Other(number) => number,
+            named => NAMED.iter().position(|r| *r == named).map_or(0, |i| i as u8 + 1),
+        }
     }
 
-    /// The refusal of a number; none for 0 and from 13 on.
+    /// The refusal of a number; none for 0, which is no refusal.
     pub fn from_number(number: u8) -> Option<Refusal> {
-        Some(match number {
-            1 => Refusal::StartAboveEnd,
-            2 => Refusal::EndAbove256,
-            3 => Refusal::TooShort,
-            4 => Refusal::HebapAbove19,
-            5 => Refusal::ComponentTooLarge,
-            6 => Refusal::PlanDoesNotFit,
-            7 => Refusal::OutputEnds,
-            8 => Refusal::InputEnds,
-            9 => Refusal::GroupWordAbove26,
-            10 => Refusal::UnusedCodeNotZero,
-            11 => Refusal::UnknownToQuantiser,
-            12 => Refusal::ArgumentOutOfRange,
-            _ => return None,
-        })
+        match number {
+            0 => None,
+            _ => Some(NAMED.get(usize::from(number) - 1).copied().unwrap_or(Refusal::Other(number))),
+        }
     }
 }
 
@@ -205,21 +222,22 @@ impl fmt::Display for Refusal {
             Refusal::UnusedCodeNotZero => "an unused code of the last group word is not 0",
             Refusal::UnknownToQuantiser => "the quantiser is asked for a hebap or gain that it does not have",
             Refusal::ArgumentOutOfRange => "a mode is above 3, a count of bits above 32, or a mask outside -65536 to 65536",
+            Refusal::Other(number) => return write!(f, "refusal {number}, which this version does not know"),
         })
     }
 }
 
 impl Error for Refusal {}
 
-/// What the library's number says. It has no other numbers than 0 to 12.
+/// What the library's number says.
 fn answer(number: u8) -> Result<(), Refusal> {
-    match Refusal::from_number(number) {
-        Some(refusal) => Err(refusal),
-        None => {
-            assert_eq!(number, 0, "the linked library answers a number that this crate does not know");
-            Ok(())
-        }
-    }
+    Refusal::from_number(number).map_or(Ok(()), Err)
+}
+
+/// The version of the library that is linked: 10000 times the major number, 100 times the minor one, and the patch.
+pub fn version() -> u32 {
+    // SAFETY: it takes nothing.
+    unsafe { fathrugg_version() }
 }
 
 /// A place in a buffer: the bit `8 * byte + bit`, the first of a byte the heaviest.
@@ -235,64 +253,63 @@ pub struct Position {
 
 /// The mode and the gains of a channel, with the bits that its field takes.
 #[derive(Clone, Debug, PartialEq, Eq)]
-pub struct Plan {
-    mode: u8,
+pub struct AhtChannelPlan {
+    gaqmod: u8,
     gains: [u8; PLACES],
     count: usize,
-    payload: u32,
+    payload_bits: u32,
 }
 
-impl Plan {
-    /// A plan of any values; whether it fits a row and its vectors is tested by [`write()`]. `gains` has Gk (1, 2 or
-    /// 4) for each bin that has a gain of its own in the mode, in bin order. Of more than 256 gains, which fit no
-    /// row, only the first 256 are kept, and the count.
-    pub fn new(mode: u8, gains: &[u8], payload: u32) -> Plan {
+impl AhtChannelPlan {
+    /// A plan of any values; whether it fits a row and its vectors is tested by [`write_aht_channel`]. `gains` has Gk
+    /// (1, 2 or 4) for each bin that has a gain of its own in the mode, in bin order. Of more than 256 gains, which fit
+    /// no row, only the first 256 are kept, and the count.
+    pub fn new(gaqmod: u8, gains: &[u8], payload_bits: u32) -> AhtChannelPlan {
         let mut places = [0; PLACES];
         let kept = gains.len().min(PLACES);
         places[..kept].copy_from_slice(&gains[..kept]);
-        Plan { mode, gains: places, count: gains.len(), payload }
+        AhtChannelPlan { gaqmod, gains: places, count: gains.len(), payload_bits }
     }
 
-    /// The mode: 0 to 3 if [`plan`] made it.
-    pub fn mode(&self) -> u8 {
-        self.mode
+    /// The mode: 0 to 3 if [`plan_aht_channel`] made it.
+    pub fn gaqmod(&self) -> u8 {
+        self.gaqmod
     }
 
-    /// The gains, Gk in bin order: the first [`count`](Plan::count) of 256 places.
+    /// The gains, Gk in bin order: the first [`count`](AhtChannelPlan::count) of 256 places.
     pub fn gains(&self) -> &[u8] {
         &self.gains[..self.count.min(PLACES)]
     }
 
-    /// How many gains there are: at most 256 if [`plan`] made it.
+    /// How many gains there are: at most 256 if [`plan_aht_channel`] made it.
     pub fn count(&self) -> usize {
         self.count
     }
 
     /// The bits of the gain words and of the bins.
-    pub fn payload(&self) -> u32 {
-        self.payload
+    pub fn payload_bits(&self) -> u32 {
+        self.payload_bits
     }
 
     /// The bits of the whole field: the payload and the two bits of the mode.
-    pub fn total(&self) -> u64 {
-        2 + u64::from(self.payload)
+    pub fn total_bits(&self) -> u64 {
+        2 + u64::from(self.payload_bits)
     }
 }
 
 /// What stands in a field beside the bins.
 #[derive(Clone, Debug, PartialEq, Eq)]
-pub struct Channel {
-    mode: u8,
+pub struct AhtChannel {
+    gaqmod: u8,
     gains: [u8; PLACES],
     count: usize,
     bits: u32,
-    next: Position,
 }
 
-impl Channel {
+impl AhtChannel {
     /// The mode, 0 to 3.
-    pub fn mode(&self) -> u8 {
-        self.mode
+    pub fn gaqmod(&self) -> u8 {
+        self.gaqmod
     }
 
     /// The gains, Gk (1, 2 or 4) in bin order.
@@ -303,11 +320,6 @@ impl Channel {
     /// The bits of the whole field, with the two of the mode.
     pub fn bits(&self) -> u32 {
         self.bits
-    }
-
-    /// The position behind the field.
-    pub fn next_position(&self) -> Position {
-        self.next
     }
 }
 
@@ -343,8 +355,8 @@ pub struct QuantisedBin {
 /// The plan of the bins `start` to `end - 1`: the mode and the gains of fewest bits, the lowest of equals.
 ///
 /// Refusals 1 to 5.
-pub fn plan(row: &[u8], start: usize, end: usize, vectors: &[f32]) -> Result<Plan, Refusal> {
-    let mut p = Plan::new(0, &[], 0);
+pub fn plan_aht_channel(row: &[u8], start: usize, end: usize, vectors: &[f32]) -> Result<AhtChannelPlan, Refusal> {
+    let mut p = AhtChannelPlan::new(0, &[], 0);
     // SAFETY: each pointer goes with the length of its slice, and `gains` has its 256 places.
     answer(unsafe {
         fathrugg_plan_aht_channel(
@@ -354,10 +366,10 @@ pub fn plan(row: &[u8], start: usize, end: usize, vectors: &[f32]) -> Result<Pla
             end,
             vectors.as_ptr(),
             vectors.len(),
-            &mut p.mode,
+            &mut p.gaqmod,
             p.gains.as_mut_ptr(),
             &mut p.count,
-            &mut p.payload,
+            &mut p.payload_bits,
         )
     })?;
     Ok(p)
@@ -369,8 +381,8 @@ pub fn plan(row: &[u8], start: usize, end: usize, vectors: &[f32]) -> Result<Pla
 /// The plan may be any that fits the row and the vectors, best or not.
 ///
 /// Refusals 1 to 7.
-pub fn write(
-    plan: &Plan,
+pub fn write_aht_channel(
+    plan: &AhtChannelPlan,
     row: &[u8],
     start: usize,
     end: usize,
@@ -381,10 +393,10 @@ pub fn write(
     // SAFETY: each pointer goes with the length of its slice, and `gains` has its 256 places, whatever the count.
     answer(unsafe {
         fathrugg_write_aht_channel(
-            plan.mode,
+            plan.gaqmod,
             plan.gains.as_ptr(),
             plan.count,
-            plan.payload,
+            plan.payload_bits,
             row.as_ptr(),
             row.len(),
             start,
@@ -399,7 +411,7 @@ pub fn write(
     })
 }
 
-/// Reads the field of the bins `start` to `end - 1` from the position on.
+/// Reads the field of the bins `start` to `end - 1` from the position on, and moves the position behind it.
 ///
 /// For the bin k six values go to the places `6 * k` to `6 * k + 5` of `values`, the same values in units of 2^-30,
 /// exactly, to these places of `exact`, and the index of a book bin, 0 for others, to the place k of `indices`. Every
@@ -407,24 +419,24 @@ pub fn write(
 ///
 /// Refusals 1 to 4, then 8, 9 and 10 as met.
 #[allow(clippy::too_many_arguments)]
-pub fn read(
+pub fn read_aht_channel(
     src: &[u8],
-    position: Position,
+    position: &mut Position,
     row: &[u8],
     start: usize,
     end: usize,
     values: &mut [f32],
     exact: &mut [i32],
     indices: &mut [u16],
-) -> Result<Channel, Refusal> {
-    let mut c = Channel { mode: 0, gains: [0; PLACES], count: 0, bits: 0, next: position };
+) -> Result<AhtChannel, Refusal> {
+    let mut c = AhtChannel { gaqmod: 0, gains: [0; PLACES], count: 0, bits: 0 };
     // SAFETY: each pointer goes with the length of its slice, and `gains` has its 256 places.
     answer(unsafe {
         fathrugg_read_aht_channel(
             src.as_ptr(),
             src.len(),
-            position.byte,
-            position.bit,
+            &mut position.byte,
+            &mut position.bit,
             row.as_ptr(),
             row.len(),
             start,
@@ -435,15 +447,12 @@ pub fn read(
             exact.len(),
             indices.as_mut_ptr(),
             indices.len(),
-            &mut c.mode,
+            &mut c.gaqmod,
             c.gains.as_mut_ptr(),
             &mut c.count,
             &mut c.bits,
         )
     })?;
-    // the field lies inside the input, so the byte cannot wrap
-    let bit = u64::from(position.bit) + u64::from(c.bits);
-    c.next = Position { byte: position.byte + (bit / 8) as usize, bit: (bit % 8) as u32 };
     Ok(c)
 }
 
@@ -451,7 +460,7 @@ pub fn read(
 /// outside hebap 1 to 7, it is 0.
 ///
 /// Refusal 5, where there is a book.
-pub fn search(hebap: u8, x: &[f32; 6]) -> Result<usize, Refusal> {
+pub fn vq_search(hebap: u8, x: &[f32; 6]) -> Result<usize, Refusal> {
     let mut index = 0;
     // SAFETY: `x` has its six places.
     answer(unsafe { fathrugg_vq_search(hebap, x.as_ptr(), &mut index) })?;
@@ -482,11 +491,10 @@ pub fn quantise_bin(hebap: u8, gk: u8, x: &[f32; 6]) -> Result<QuantisedBin, Ref
 
 /// The vector at an index of the book of the hebap, counted round the book; six zeros where there is no book, outside
 /// hebap 1 to 7.
-pub fn lookup(hebap: u8, index: usize) -> [f32; 6] {
+pub fn vq_lookup(hebap: u8, index: usize) -> [f32; 6] {
     let mut out = [0.0; 6];
-    // SAFETY: `out` has its six places.
-    let number = unsafe { fathrugg_vq_lookup(hebap, index, out.as_mut_ptr()) };
-    assert_eq!(number, 0, "this call never refuses");
+    // SAFETY: `out` has its six places. The call never refuses.
+    unsafe { fathrugg_vq_lookup(hebap, index, out.as_mut_ptr()) };
     out
 }
 
@@ -564,7 +572,7 @@ pub fn gaq_gain_value(code: u8, gaqmod: u8) -> Result<u8, Refusal> {
 }
 
 /// Reads `nsections` gain words and puts their codes, 0 to 2, to the front of the output, as far as it goes; moves
-/// the position. It is laxer than [`read`]: of a group word above 26 the first code is cut to 2. How many codes were
+/// the position. It is laxer than [`read_aht_channel`]: of a group word above 26 the first code is cut to 2. How many codes were
 /// put there is the answer.
 ///
 /// Refusals 12, then 8.

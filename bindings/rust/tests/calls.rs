@@ -2,8 +2,9 @@
 #![forbid(unsafe_code)]
 
 use fathrugg::{
-    endbap_for_gaqmod, fill_gaqbin, gaq_gain_value, gaq_sections, hebap_from_address, lookup, plan, quantise_bin, quantise_scalar, read, read_gaq_gains,
-    read_scalar_aht_mantissas, read_u32, search, write, write_u32, Channel, Code, Plan, Position, Refusal,
+    endbap_for_gaqmod, fill_gaqbin, gaq_gain_value, gaq_sections, hebap_from_address, plan_aht_channel, quantise_bin, quantise_scalar, read_aht_channel,
+    read_gaq_gains, read_scalar_aht_mantissas, read_u32, version, vq_lookup, vq_search, write_aht_channel, write_u32, AhtChannel, AhtChannelPlan, Code,
+    Position, Refusal,
 };
 use std::error::Error;
 
@@ -44,8 +45,8 @@ impl Outputs {
         }
     }
 
-    fn read(&mut self, src: &[u8], p: Position, row: &[u8], start: usize, end: usize) -> Result<Channel, Refusal> {
-        read(src, p, row, start, end, &mut self.values, &mut self.exact, &mut self.indices)
+    fn read(&mut self, src: &[u8], p: &mut Position, row: &[u8], start: usize, end: usize) -> Result<AhtChannel, Refusal> {
+        read_aht_channel(src, p, row, start, end, &mut self.values, &mut self.exact, &mut self.indices)
     }
 
     /// All of it, the f32 by their bits.
@@ -80,12 +81,12 @@ fn has_gain(mode: u8, hebap: u8) -> bool {
 
 /// Writes the field of a plan at a bit position of a patterned buffer, reads it back and tests everything that was
 /// lent.
-fn written_and_read(p: &Plan, row: &[u8], start: usize, end: usize, x: &[f32], at: usize) {
-    let total = p.total() as usize;
+fn written_and_read(p: &AhtChannelPlan, row: &[u8], start: usize, end: usize, x: &[f32], at: usize) {
+    let total = p.total_bits() as usize;
     let before = patterned((at + total).div_ceil(8) + 1);
     let mut out = before.clone();
     let mut here = position(at);
-    assert_eq!(write(p, row, start, end, x, &mut out, &mut here), Ok(()));
+    assert_eq!(write_aht_channel(p, row, start, end, x, &mut out, &mut here), Ok(()));
     assert_eq!(here, position(at + total));
     for k in (0..at).chain(at + total..8 * out.len()) {
         assert_eq!(bit(&out, k), bit(&before, k), "the bit {k}, outside of {at} to {}", at + total);
@@ -94,16 +95,18 @@ fn written_and_read(p: &Plan, row: &[u8], start: usize, end: usize, x: &[f32], a
     // the same bit by a byte less
     let mut again = before.clone();
     let mut over = Position { byte: at / 8 - 1, bit: (at % 8 + 8) as u32 };
-    assert_eq!(write(p, row, start, end, x, &mut again, &mut over), Ok(()));
+    assert_eq!(write_aht_channel(p, row, start, end, x, &mut again, &mut over), Ok(()));
     assert_eq!((again, over), (out.clone(), here));
 
     let mut got = Outputs::patterned(end + 2);
     let (values, exact, indices) = got.bits();
-    let channel = got.read(&out, position(at), row, start, end).unwrap();
-    assert_eq!((channel.mode(), channel.gains(), u64::from(channel.bits())), (p.mode(), p.gains(), p.total()));
-    assert_eq!(channel.next_position(), here);
-    let from_over = Position { byte: at / 8 - 1, bit: (at % 8 + 8) as u32 };
-    assert_eq!(Outputs::patterned(end + 2).read(&out, from_over, row, start, end).unwrap(), channel);
+    let mut behind = position(at);
+    let channel = got.read(&out, &mut behind, row, start, end).unwrap();
+    assert_eq!((channel.gaqmod(), channel.gains(), u64::from(channel.bits())), (p.gaqmod(), p.gains(), p.total_bits()));
+    assert_eq!(behind, here);
+    let mut over = Position { byte: at / 8 - 1, bit: (at % 8 + 8) as u32 };
+    assert_eq!(Outputs::patterned(end + 2).read(&out, &mut over, row, start, end).unwrap(), channel);
+    assert_eq!(over, here);
 
     let mut gains = p.gains().iter();
     for bin in 0..end + 2 {
@@ -118,9 +121,9 @@ fn written_and_read(p: &Plan, row: &[u8], start: usize, end: usize, x: &[f32], a
         let (hebap, v) = (row[bin], six(x, bin));
         match hebap {
             0 => assert_eq!((shown, got.indices[bin]), (vec![0; 6], 0)),
-            1..=7 => assert_eq!(usize::from(got.indices[bin]), search(hebap, v).unwrap()),
+            1..=7 => assert_eq!(usize::from(got.indices[bin]), vq_search(hebap, v).unwrap()),
             _ => {
-                let gk = if has_gain(p.mode(), hebap) { *gains.next().unwrap() } else { 1 };
+                let gk = if has_gain(p.gaqmod(), hebap) { *gains.next().unwrap() } else { 1 };
                 let want: Vec<u32> = quantise_bin(hebap, gk, v).unwrap().values.iter().map(|y| y.to_bits()).collect();
                 assert_eq!((shown, got.indices[bin]), (want, 0), "the bin {bin} of hebap {hebap} at Gk {gk}");
             }
@@ -137,16 +140,17 @@ fn written_and_read(p: &Plan, row: &[u8], start: usize, end: usize, x: &[f32], a
 fn tie() {
     let row = [8, 0];
     let x = [0.25, 0.0, -0.25, 0.0, 0.0, 0.0, 0.0, 0.0, 0.0, 0.0, 0.0, 0.0];
-    let p = plan(&row, 0, 2, &x).unwrap();
-    assert_eq!((p.mode(), p.gains(), p.count(), p.payload(), p.total()), (1, &[2][..], 1, 13, 15));
-    assert_eq!(p, Plan::new(1, &[2], 13));
+    let p = plan_aht_channel(&row, 0, 2, &x).unwrap();
+    assert_eq!((p.gaqmod(), p.gains(), p.count(), p.payload_bits(), p.total_bits()), (1, &[2][..], 1, 13, 15));
+    assert_eq!(p, AhtChannelPlan::new(1, &[2], 13));
     let mut out = [0; 2];
     let mut here = Position::default();
-    write(&p, &row, 0, 2, &x, &mut out, &mut here).unwrap();
+    write_aht_channel(&p, &row, 0, 2, &x, &mut out, &mut here).unwrap();
     assert_eq!((out, here), ([0x69, 0x80], Position { byte: 1, bit: 7 }));
     let mut got = Outputs::patterned(2);
-    let channel = got.read(&out, Position::default(), &row, 0, 2).unwrap();
-    assert_eq!((channel.mode(), channel.gains(), channel.bits(), channel.next_position()), (1, &[2][..], 15, here));
+    let mut behind = Position::default();
+    let channel = got.read(&out, &mut behind, &row, 0, 2).unwrap();
+    assert_eq!((channel.gaqmod(), channel.gains(), channel.bits(), behind), (1, &[2][..], 15, here));
     assert_eq!(got.values, x);
     assert_eq!(got.exact, x.map(|v| (v * (1 << 30) as f32) as i32));
     assert_eq!(got.indices, [0, 0]);
@@ -193,8 +197,8 @@ fn channels_come_back() {
     ];
     let mut modes = [false; 4];
     for (row, start, end, x) in channels {
-        let p = plan(row, *start, *end, x).unwrap();
-        modes[usize::from(p.mode())] = true;
+        let p = plan_aht_channel(row, *start, *end, x).unwrap();
+        modes[usize::from(p.gaqmod())] = true;
         for at in [13, 8, 23] {
             written_and_read(&p, row, *start, *end, x, at);
         }
@@ -211,8 +215,8 @@ fn channels_come_back() {
                 gains += usize::from(has_gain(mode, row[bin]));
             }
             payload += if mode == 3 { 5 * gains.div_ceil(3) as u32 } else { gains as u32 };
-            assert!(p.payload() <= payload);
-            written_and_read(&Plan::new(mode, &vec![1; gains], payload), row, *start, *end, x, 11);
+            assert!(p.payload_bits() <= payload);
+            written_and_read(&AhtChannelPlan::new(mode, &vec![1; gains], payload), row, *start, *end, x, 11);
         }
     }
     assert_eq!(modes, [true; 4], "each mode is met");
@@ -238,11 +242,11 @@ fn scalars_and_books() {
     }
     // no book, no refusal
     for hebap in [0, 8, 255] {
-        assert_eq!(search(hebap, &[f32::NAN; 6]), Ok(0));
+        assert_eq!(vq_search(hebap, &[f32::NAN; 6]), Ok(0));
     }
     for (hebap, bits) in [(1, 2), (2, 3), (3, 4), (4, 5), (5, 7), (6, 8), (7, 9)] {
         for bin in 0..20 {
-            assert!(search(hebap, six(&vectors(20, 1.0), bin)).unwrap() < 1 << bits);
+            assert!(vq_search(hebap, six(&vectors(20, 1.0), bin)).unwrap() < 1 << bits);
         }
     }
 }
@@ -253,7 +257,7 @@ struct Call {
     start: usize,
     end: usize,
     x: Vec<f32>,
-    plan: Plan,
+    plan: AhtChannelPlan,
     out: Vec<u8>,
     at: Position,
     /// A field of the channel at `at`, for the reader.
@@ -267,10 +271,10 @@ impl Call {
         let row = vec![8, 14, 12, 9, 5];
         let x = vectors(5, 0.3);
         let payload = 10 + (1..4).fold(7, |n, k| n + quantise_bin(row[k], 2, six(&x, k)).unwrap().bits) + quantise_bin(8, 4, six(&x, 0)).unwrap().bits;
-        let plan = Plan::new(3, &[4, 2, 2, 2], payload);
-        let len = (11 + plan.total() as usize).div_ceil(8);
+        let plan = AhtChannelPlan::new(3, &[4, 2, 2, 2], payload);
+        let len = (11 + plan.total_bits() as usize).div_ceil(8);
         let mut src = patterned(len);
-        write(&plan, &row, 0, 5, &x, &mut src, &mut position(11)).unwrap();
+        write_aht_channel(&plan, &row, 0, 5, &x, &mut src, &mut position(11)).unwrap();
         Call { row, start: 0, end: 5, x, plan, out: patterned(len), at: position(11), src, got: Outputs::patterned(5) }
     }
 
@@ -280,23 +284,23 @@ impl Call {
         call
     }
 
-    fn plan(&self) -> Result<Plan, Refusal> {
-        plan(&self.row, self.start, self.end, &self.x)
+    fn plan(&self) -> Result<AhtChannelPlan, Refusal> {
+        plan_aht_channel(&self.row, self.start, self.end, &self.x)
     }
 
     /// Writes; where it is refused, the output and the position must be as they were.
     fn write(&mut self) -> Result<(), Refusal> {
         let before = (self.out.clone(), self.at);
-        let answer = write(&self.plan, &self.row, self.start, self.end, &self.x, &mut self.out, &mut self.at);
+        let answer = write_aht_channel(&self.plan, &self.row, self.start, self.end, &self.x, &mut self.out, &mut self.at);
         assert_eq!(answer.is_err(), before == (self.out.clone(), self.at));
         answer
     }
 
-    /// Reads; where it is refused, every output must be as it was.
-    fn read(&mut self) -> Result<Channel, Refusal> {
-        let before = self.got.bits();
-        let answer = self.got.read(&self.src, self.at, &self.row, self.start, self.end);
-        assert_eq!(answer.is_err(), before == self.got.bits());
+    /// Reads; where it is refused, every output and the position must be as they were.
+    fn read(&mut self) -> Result<AhtChannel, Refusal> {
+        let before = (self.got.bits(), self.at);
+        let answer = self.got.read(&self.src, &mut self.at, &self.row, self.start, self.end);
+        assert_eq!(answer.is_err(), before == (self.got.bits(), self.at));
         answer
     }
 }
@@ -362,7 +366,7 @@ fn refusal_5_component_too_large() {
         assert_eq!(Call::with(|c| c.x[29] = bad).plan(), Err(Refusal::ComponentTooLarge));
         assert_eq!(Call::with(|c| c.x[29] = bad).write(), Err(Refusal::ComponentTooLarge));
         let x = [0.0, 0.0, 0.0, bad, 0.0, 0.0];
-        assert_eq!(search(1, &x), Err(Refusal::ComponentTooLarge));
+        assert_eq!(vq_search(1, &x), Err(Refusal::ComponentTooLarge));
         assert_eq!(quantise_scalar(8, 1, bad), Err(Refusal::ComponentTooLarge));
         assert_eq!(quantise_bin(8, 1, &x), Err(Refusal::ComponentTooLarge));
     }
@@ -374,28 +378,28 @@ fn refusal_5_component_too_large() {
 #[test]
 fn refusal_6_plan_does_not_fit() {
     let good = Call::good().plan;
-    let (mode, gains, payload) = (good.mode(), good.gains().to_vec(), good.payload());
+    let (mode, gains, payload) = (good.gaqmod(), good.gains().to_vec(), good.payload_bits());
     let plans = [
-        Plan::new(4, &gains, payload),
-        Plan::new(255, &gains, payload),
-        Plan::new(2, &gains, payload),
-        Plan::new(mode, &gains[..3], payload),
-        Plan::new(mode, &[4, 2, 2, 2, 1], payload),
-        Plan::new(mode, &[4, 2, 2, 3], payload),
-        Plan::new(mode, &gains, payload + 1),
-        Plan::new(mode, &gains, payload - 1),
-        Plan::new(mode, &gains, u32::MAX),
-        Plan::new(mode, &[1; 257], payload),
-        Plan::new(mode, &[1; 5000], payload),
+        AhtChannelPlan::new(4, &gains, payload),
+        AhtChannelPlan::new(255, &gains, payload),
+        AhtChannelPlan::new(2, &gains, payload),
+        AhtChannelPlan::new(mode, &gains[..3], payload),
+        AhtChannelPlan::new(mode, &[4, 2, 2, 2, 1], payload),
+        AhtChannelPlan::new(mode, &[4, 2, 2, 3], payload),
+        AhtChannelPlan::new(mode, &gains, payload + 1),
+        AhtChannelPlan::new(mode, &gains, payload - 1),
+        AhtChannelPlan::new(mode, &gains, u32::MAX),
+        AhtChannelPlan::new(mode, &[1; 257], payload),
+        AhtChannelPlan::new(mode, &[1; 5000], payload),
     ];
     for p in plans {
         assert_eq!(Call::with(|c| c.plan = p.clone()).write(), Err(Refusal::PlanDoesNotFit), "{p:?}");
     }
     // 6 comes before 7
-    assert_eq!(Call::with(|c| (c.plan, c.out) = (Plan::new(4, &[], 0), Vec::new())).write(), Err(Refusal::PlanDoesNotFit));
+    assert_eq!(Call::with(|c| (c.plan, c.out) = (AhtChannelPlan::new(4, &[], 0), Vec::new())).write(), Err(Refusal::PlanDoesNotFit));
     // such plans say what they were made of
-    let many = Plan::new(9, &[7; 257], u32::MAX);
-    assert_eq!((many.mode(), many.gains(), many.count(), many.total()), (9, &[7; 256][..], 257, (1 << 32) + 1));
+    let many = AhtChannelPlan::new(9, &[7; 257], u32::MAX);
+    assert_eq!((many.gaqmod(), many.gains(), many.count(), many.total_bits()), (9, &[7; 256][..], 257, (1 << 32) + 1));
 }
 
 #[test]
@@ -483,25 +487,31 @@ fn refusal_11_unknown_to_quantiser() {
     }
 }
 
-// Each refusal by its number and its words; 12 is met by the small calls below.
+// Each refusal by its number and its words; 12 is met by the small calls below. Numbers that are not known yet have
+// words too.
 #[test]
 fn numbers_and_words() {
     let mut words = Vec::new();
-    for number in 1..=12 {
+    for number in 1..=255 {
         let refusal = Refusal::from_number(number).unwrap();
-        assert_eq!((refusal.number(), refusal as u8), (number, number));
+        assert_eq!(refusal.number(), number);
+        assert_eq!(refusal == Refusal::Other(number), number > 12);
         let error: Box<dyn Error> = Box::new(refusal);
         words.push(error.to_string());
     }
     assert_eq!(words[0], "start is above end");
     assert_eq!(words[11], "a mode is above 3, a count of bits above 32, or a mask outside -65536 to 65536");
+    assert_eq!(words[98], "refusal 99, which this version does not know");
     words.sort();
     words.dedup();
-    assert_eq!(words.len(), 12);
-    for number in (0..1).chain(13..=255) {
-        assert_eq!(Refusal::from_number(number), None);
-    }
-    assert_eq!(std::mem::size_of::<Refusal>(), 1);
+    assert_eq!(words.len(), 255);
+    assert_eq!(Refusal::from_number(0), None);
+}
+
+#[test]
+fn one_version() {
+    let parts: Vec<u32> = env!("CARGO_PKG_VERSION").split('.').map(|n| n.parse().unwrap()).collect();
+    assert_eq!(version(), 10000 * parts[0] + 100 * parts[1] + parts[2]);
 }
 
 // ---- the small calls; what is expected is worked out by hand from Annex E, 3.4
@@ -574,10 +584,10 @@ fn mantissas_and_vectors() {
     // a vector of a book is its own nearest, and the index is counted round the book
     for (hebap, size) in [(1, 4), (2, 8), (3, 16), (4, 32), (5, 128), (6, 256), (7, 512)] {
         for index in [0, 1, size / 2, size - 1] {
-            let v = lookup(hebap, index);
-            assert_eq!(search(hebap, &v), Ok(index));
-            assert_eq!(lookup(hebap, index + size), v);
+            let v = vq_lookup(hebap, index);
+            assert_eq!(vq_search(hebap, &v), Ok(index));
+            assert_eq!(vq_lookup(hebap, index + size), v);
         }
     }
-    assert_eq!((lookup(0, 5), lookup(8, 5)), ([0.0; 6], [0.0; 6]));
+    assert_eq!((vq_lookup(0, 5), vq_lookup(8, 5)), ([0.0; 6], [0.0; 6]));
 }

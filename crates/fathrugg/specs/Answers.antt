@@ -1,13 +1,13 @@
 -- The answers of the crates below as C has them: positions by a byte and a bit, and what each lent place holds
 -- afterwards.
-use Prim.Native.Nat.{ℕ, _*_}
+use Prim.Native.Nat.{ℕ, _+_, _*_}
 use mathlib.Core.Bool.{cond}
 use mathlib.Core.List.{List}
 use lib.Dec.{eqb}
 use lib.Ieee.{Float}
 use lib.IntN.{ℤ}
 use lib.ListN.{length}
-use Rattle.bits.specs.Bits.{bitAt, readU32, writeU32}
+use Rattle.bits.specs.Bits.{bitAt, posOf, readU32, writeU32}
 use Rattle.bits.specs.Format.{Got}
 use Rattle.bits.specs.declared.BitMove.{BitMove}
 use Rattle.bits.specs.declared.BitPos.{BitPos}
@@ -64,6 +64,10 @@ fromPlan r f old = afterNumber (r .refusal) (f (r .plan)) old
 
 abbrev pub fromRead : {A : Type 0} → ChannelRead → (ChannelRead → A) → A → A
 fromRead r f old = afterNumber (r .refusal) (f r) old
+
+-- the position after a read: behind the field, or where it was
+abbrev pub placeAfter : BitPos → ChannelRead → BitPos
+placeAfter p r = fromRead r (λ c. posOf (bitAt p + c .bits)) p
 
 -- the plan that C lends part by part
 abbrev pub planFrom : ℕ → List ℕ → ℕ → ℕ → Plan

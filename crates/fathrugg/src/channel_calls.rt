@@ -3,7 +3,7 @@ ghost use mathlib.Core.Path.{_≡_};
 ghost use Rattle.planner.specs.Planning.{planned};
 ghost use Rattle.writer.specs.Written.{channelWritten, writeNumber, writePlace};
 ghost use Rattle.reader.specs.Reading.{answerTo, valuesAfter, exactAfter, indicesAfter};
-ghost use Rattle.fathrugg.specs.Answers.{place, bitOfPlace, channelAt, callAt, fromPlan, fromRead, planFrom};
+ghost use Rattle.fathrugg.specs.Answers.{place, bitOfPlace, channelAt, callAt, placeAfter, fromPlan, fromRead, planFrom};
 use bits::BitPos;
 use planner::Plan;
 use planner::Planned;
@@ -95,14 +95,14 @@ fn gains_read(r: ChannelRead) -> [u8; 256]
     r.gains
 }
 
-// Reads the field of the bins start to end - 1 from the position on: six f32, six exact values and an index a bin; the
-// mode, the gains in bin order, how many, and the bits of the field. Refusals 1 to 4, 8, 9, 10. The next position is
-// the byte byte + (bit + bits) / 8 and the bit (bit + bits) % 8, added in 64 bits.
+// Reads the field of the bins start to end - 1 from the position on, and moves the position behind it: six f32, six
+// exact values and an index a bin; the mode, the gains in bin order, how many, and the bits of the field. Refusals 1 to
+// 4, 8, 9, 10.
 #[no_mangle]
 pub extern "C" fn fathrugg_read_aht_channel(
     src: &[u8],
-    byte: usize,
-    bit: u32,
+    byte: &mut usize,
+    bit: &mut u32,
     hebap: &[u8],
     start: usize,
     end: usize,
@@ -115,27 +115,32 @@ pub extern "C" fn fathrugg_read_aht_channel(
     bits: &mut u32,
 ) -> u8
     ensures { λ r. ⌜ r ≡ answerTo (now (hebap .entry)) start end
-        (callAt (now (src .entry)) byte bit (now (values .entry)) (now (exact .entry)) (now (indices .entry))) .refusal ⌝ }
+        (callAt (now (src .entry)) (now (byte .entry)) (now (bit .entry)) (now (values .entry)) (now (exact .entry)) (now (indices .entry))) .refusal ⌝ }
+    ensures { λ r. ⌜ place (now (byte .exit)) (now (bit .exit)) ≡ placeAfter (place (now (byte .entry)) (now (bit .entry))) (answerTo (now (hebap .entry)) start end
+        (callAt (now (src .entry)) (now (byte .entry)) (now (bit .entry)) (now (values .entry)) (now (exact .entry)) (now (indices .entry)))) ⌝ }
     ensures { λ r. ⌜ now (values .exit) ≡ valuesAfter (now (hebap .entry)) start end
-        (callAt (now (src .entry)) byte bit (now (values .entry)) (now (exact .entry)) (now (indices .entry))) ⌝ }
+        (callAt (now (src .entry)) (now (byte .entry)) (now (bit .entry)) (now (values .entry)) (now (exact .entry)) (now (indices .entry))) ⌝ }
     ensures { λ r. ⌜ now (exact .exit) ≡ exactAfter (now (hebap .entry)) start end
-        (callAt (now (src .entry)) byte bit (now (values .entry)) (now (exact .entry)) (now (indices .entry))) ⌝ }
+        (callAt (now (src .entry)) (now (byte .entry)) (now (bit .entry)) (now (values .entry)) (now (exact .entry)) (now (indices .entry))) ⌝ }
     ensures { λ r. ⌜ now (indices .exit) ≡ indicesAfter (now (hebap .entry)) start end
-        (callAt (now (src .entry)) byte bit (now (values .entry)) (now (exact .entry)) (now (indices .entry))) ⌝ }
+        (callAt (now (src .entry)) (now (byte .entry)) (now (bit .entry)) (now (values .entry)) (now (exact .entry)) (now (indices .entry))) ⌝ }
     ensures { λ r. ⌜ now (mode .exit) ≡ fromRead (answerTo (now (hebap .entry)) start end
-        (callAt (now (src .entry)) byte bit (now (values .entry)) (now (exact .entry)) (now (indices .entry))))
+        (callAt (now (src .entry)) (now (byte .entry)) (now (bit .entry)) (now (values .entry)) (now (exact .entry)) (now (indices .entry))))
         (λ c. c .mode) (now (mode .entry)) ⌝ }
     ensures { λ r. ⌜ now (gains .exit) ≡ fromRead (answerTo (now (hebap .entry)) start end
-        (callAt (now (src .entry)) byte bit (now (values .entry)) (now (exact .entry)) (now (indices .entry))))
+        (callAt (now (src .entry)) (now (byte .entry)) (now (bit .entry)) (now (values .entry)) (now (exact .entry)) (now (indices .entry))))
         (λ c. c .gains) (now (gains .entry)) ⌝ }
     ensures { λ r. ⌜ now (count .exit) ≡ fromRead (answerTo (now (hebap .entry)) start end
-        (callAt (now (src .entry)) byte bit (now (values .entry)) (now (exact .entry)) (now (indices .entry))))
+        (callAt (now (src .entry)) (now (byte .entry)) (now (bit .entry)) (now (values .entry)) (now (exact .entry)) (now (indices .entry))))
         (λ c. c .count) (now (count .entry)) ⌝ }
     ensures { λ r. ⌜ now (bits .exit) ≡ fromRead (answerTo (now (hebap .entry)) start end
-        (callAt (now (src .entry)) byte bit (now (values .entry)) (now (exact .entry)) (now (indices .entry))))
+        (callAt (now (src .entry)) (now (byte .entry)) (now (bit .entry)) (now (values .entry)) (now (exact .entry)) (now (indices .entry))))
         (λ c. c .bits) (now (bits .entry)) ⌝ }
 {
-    let p = BitPos { byte, bit };
+    let p = BitPos {
+        byte: *byte,
+        bit: *bit,
+    };
     let c = reader::read_aht_channel(
         src,
         p,
@@ -147,6 +152,9 @@ pub extern "C" fn fathrugg_read_aht_channel(
         &mut *indices,
     );
     if c.refusal == 0 {
+        let q = p.advance(1, c.bits as usize);
+        *byte = q.byte;
+        *bit = q.bit;
         *mode = c.mode;
         *gains = gains_read(c);
         *count = c.count;

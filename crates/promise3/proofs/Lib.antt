@@ -4,9 +4,8 @@ pub mod Same
 pub mod Bins
 pub mod Plans
 pub mod Allowing
-pub mod Trips
+pub mod ReadBack
 pub mod Promise
-pub mod Cases
 pub mod Points
 pub mod Accepting
 pub mod Taken

@@ -18,7 +18,7 @@ use Rattle.promise3.specs.Promise.{Allowed, acceptedField, LongEnough, S
 use Rattle.promise3.proofs.Calls.{accepted-found}
 use Rattle.promise3.proofs.Plans.{given}
 use Rattle.promise3.proofs.Same.{found-same}
-use Rattle.promise3.proofs.Trips.{answered, shows}
+use Rattle.promise3.proofs.ReadBack.{answered, shows}
 
 -- For every row and bins, any two fields that the channel reader accepts for them, in whichever buffers and at
 -- whichever positions, are equal exactly when they show the same mode, the same gains, the same book index in every

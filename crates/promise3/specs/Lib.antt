@@ -1,4 +1,3 @@
 pub mod Promise
-pub mod Trip
 pub mod Aht
 pub mod Ahtenc

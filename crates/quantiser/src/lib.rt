@@ -1,4 +1,5 @@
-// The quantiser: which code is picked for a mantissa, operation by operation as in the Rust.
+// The quantiser: which code is picked for a mantissa. The operations are the Rust's, but that it multiplies by 1 / 2^n
+// where the Rust divides by 2^n, which is proved to give the same f32.
 ghost use mathlib.Core.Path.{_≡_};
 ghost use Prim.Native.Nat.{_≤_};
 ghost use lib.ListN.{length};

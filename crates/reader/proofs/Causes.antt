@@ -1,6 +1,6 @@
 -- What the reader finds, case by case. Assumes nothing.
-use Prim.Native.Nat.{ℕ, zero, suc, _*_, _≤_, _<_}
-use mathlib.Core.Path.{_≡_, refl, sym, _∙_}
+use Prim.Native.Nat.{ℕ, zero, suc, _+_, _-_, _*_, _≤_, _<_}
+use mathlib.Core.Path.{_≡_, refl, sym, ap, _∙_}
 use mathlib.Core.Bool.{Bool, true, false, _||_}
 use mathlib.Core.List.{List}
 use native.Mathlib.Omega.{arith}
@@ -8,12 +8,12 @@ use borrow.Author.Tests.{ltb-false, le-leb, lt-leb, leb-true, leb-false, ne-eqb}
 use lib.Dec.{ltb, leb}
 use lib.ListN.{length, drop}
 use Rattle.bits.specs.Bits.{bitsOf}
-use Rattle.bits.specs.Format.{got, refused}
+use Rattle.bits.specs.Format.{Got, got, refused}
 use Rattle.channel.specs.Row.{RowOk}
 use Rattle.channel.specs.Field.{Channel, field}
 use Rattle.channel.proofs.Rows.{row-ok}
 use Rattle.bits.proofs.Tests.{neither}
-use Rattle.reader.specs.Reading.{Call, readCause, found}
+use Rattle.reader.specs.Reading.{Call, readCause, found, readAnswer, answerTo}
 use Rattle.reader.specs.Work.{outputs, Long}
 
 module _ (row : List ℕ) (start end : ℕ) (c : Call) where
@@ -62,3 +62,24 @@ module _ (row : List ℕ) (start end : ℕ) (c : Call) where
       cause : (k : ℕ) → readCause row start end c ≡ k → FoundAt d rest
       cause zero q = past q (leb (c .at) (8 * length (c .src))) refl
       cause (suc k) q = no (suc k) (found-cause (suc k) (sym q) (λ (n : suc k ≡ 0). omega arith))
+
+  -- what it accepts ends inside the bytes
+  pub read-inside : answerTo row start end c .refusal ≡ 0 → c .at + answerTo row start end c .bits ≤ 8 * length (c .src)
+  read-inside h = cause (readCause row start end c) refl
+    where
+      no : {A : Type 0} (k : ℕ) → (k ≡ 0 → ⊥) → found row start end c ≡ refused k → A
+      no k n g = absurd (n (sym (ap (λ (t : Got Channel). readAnswer (8 * length (c .src) - c .at) t .refusal) g) ∙ h))
+
+      used : (n : ℕ) (t : Got Channel) → readAnswer n t .bits ≤ n
+      used n (got d rest) = omega arith
+      used n (refused k) = omega arith
+
+      past : readCause row start end c ≡ 0 → (t : Bool) → leb (c .at) (8 * length (c .src)) ≡ t → c .at + answerTo row start end c .bits ≤ 8 * length (c .src)
+      past n true q =
+          let i = leb-true (c .at) (8 * length (c .src)) q in
+          let u = used (8 * length (c .src) - c .at) (found row start end c) in omega arith
+      past n false q = no 8 (λ (z : 8 ≡ 0). omega arith) (found-past n (leb-false (c .at) (8 * length (c .src)) q))
+
+      cause : (k : ℕ) → readCause row start end c ≡ k → c .at + answerTo row start end c .bits ≤ 8 * length (c .src)
+      cause zero q = past q (leb (c .at) (8 * length (c .src))) refl
+      cause (suc k) q = no (suc k) (λ (n : suc k ≡ 0). omega arith) (found-cause (suc k) (sym q) (λ (n : suc k ≡ 0). omega arith))

@@ -1,14 +1,12 @@
 -- What stands at the places of a record, when an answer is the record's, and the count of answers. The places are
 -- those that src/lib.rt names.
-use Prim.Native.Nat.{ℕ, min, _+_, _*_, _%_, _^_}
-use mathlib.Core.Path.{_≡_}
+use Prim.Native.Nat.{ℕ, _+_, _*_, _%_, _^_}
 use mathlib.Core.Bool.{Bool, cond, not, _&&_}
 use mathlib.Core.List.{List}
 use lib.Dec.{eqb, ltb}
-use lib.ListN.{take, drop, getD}
+use lib.ListN.{getD}
 use lib.Ieee.{Float, nan, binary32, ofBits, toBits, isNan}
 use Rattle.bits.specs.declared.BitPos.{BitPos}
-use Rattle.bits.specs.declared.BitMove.{BitMove}
 use Rattle.records.specs.declared.Count.{Count}
 
 -- ---- numbers
@@ -25,16 +23,13 @@ at32 r k = at16 r k + 0x1_0000 * at16 r (k + 2)
 unfoldable pub at64 : List ℕ → ℕ → ℕ
 at64 r k = at32 r k + 0x1_0000_0000 * at32 r (k + 4)
 
--- the f32 of these bits, 0 where they are a NaN's
+-- the f32 of these bits
 unfoldable pub floatOf : ℕ → Float
-floatOf bits = cond (ltb 0x7f80_0000 (bits % 0x8000_0000)) (ofBits binary32 0) (ofBits binary32 bits)
+floatOf bits = cond (ltb 0x7f80_0000 (bits % 0x8000_0000)) nan (ofBits binary32 bits)
 
 -- ---- the call
 abbrev pub positionOf : List ℕ → BitPos
 positionOf r = record { byte = at64 r 8; bit = at32 r 16 }
-
-abbrev pub inputOf : List ℕ → List ℕ
-inputOf r = take (min 24 (at8 r 6)) (drop 32 r)
 
 -- ---- the answer
 abbrev pub sameValue : List ℕ → ℕ → ℕ → Bool
@@ -43,24 +38,9 @@ sameValue r refusal value = eqb (at8 r 1) refusal && eqb (at64 r 104) value
 abbrev pub samePlace : List ℕ → BitPos → Bool
 samePlace r p = eqb (at64 r 112) (p .byte) && eqb (at32 r 120) (p .bit)
 
--- the n places of the output, in a copy of the record, are what the record has after the call
-abbrev pub SameOut : List ℕ → List ℕ → ℕ → Type 0
-SameOut r out n = take n (drop 56 out) ≡ take n (drop 80 r)
-
-abbrev pub sameWritten : List ℕ → BitMove → Bool
-sameWritten r (BitMove.Done q) = sameValue r 0 0 && samePlace r q
-sameWritten r (BitMove.Refused k) = sameValue r k 0
-
 -- the bits of y, no NaN, stand at the place
 unfoldable pub sameFloat : List ℕ → ℕ → Float → Bool
 sameFloat r k y = not (isNan y) && eqb (toBits binary32 y) (at32 r k)
-
--- the float k of six, which stand from the place 80 on, and all six
-abbrev pub sameOne : List ℕ → List Float → ℕ → Bool
-sameOne r y k = sameFloat r (80 + 4 * k) (getD y k nan)
-
-abbrev pub sameFloats : List ℕ → List Float → Bool
-sameFloats r y = ((((sameOne r y 0 && sameOne r y 1) && sameOne r y 2) && sameOne r y 3) && sameOne r y 4) && sameOne r y 5
 
 -- ---- the count
 abbrev pub newCount : ℕ → Count

@@ -1,59 +1,27 @@
 // What replay and replay_channels share. A record is a call with the answer that the Rust gave (tests/judge/record.rs
-// wrote it): its places, the numbers that stand there, whether an answer is the record's, and the count of answers.
+// wrote it): the places that every record has, the numbers that stand there, whether an answer is the record's, and
+// the count of answers. A place behind the end holds 0.
 ghost use mathlib.Core.Path.{_≡_};
-ghost use mathlib.Core.Bool.{true};
-ghost use Prim.Native.Nat.{min, _+_, _<_, _≤_};
+ghost use Prim.Native.Nat.{_<_};
+ghost use lib.ListN.{take, drop};
 ghost use Rattle.levels.specs.Codes.{signed};
-ghost use Rattle.records.specs.Records.{at8, at16, at32, at64, floatOf, positionOf, inputOf, sameValue, samePlace, SameOut, sameWritten, sameFloat, sameFloats, newCount, oneMore, countAfter};
-use bits::BitMove;
+ghost use Rattle.records.specs.Records.{at8, at16, at32, at64, floatOf, positionOf, sameValue, samePlace, sameFloat, newCount, oneMore, countAfter};
 use bits::BitPos;
 use libc::STDIN_FILENO;
 use libc::STDOUT_FILENO;
 
-pub type Record = [u8; 256];
-
-// The places of a record.
+// The places of a record, whatever its function.
 pub const REFUSAL: usize = 1;
-
-pub const A: usize = 2;
-
-pub const B: usize = 3;
-
-pub const C: usize = 4;
-
-pub const D: usize = 5;
-
-pub const SRC_LEN: usize = 6;
-
-pub const OUT_LEN: usize = 7;
 
 pub const BYTE: usize = 8;
 
 pub const BIT: usize = 16;
-
-pub const ARG32: usize = 20;
-
-pub const ARG64: usize = 24;
-
-pub const SRC: usize = 32;
-
-pub const OUT: usize = 56;
-
-pub const OUT_AFTER: usize = 80;
 
 pub const VALUE: usize = 104;
 
 pub const NEXT_BYTE: usize = 112;
 
 pub const NEXT_BIT: usize = 120;
-
-pub const VECTORS: usize = 128;
-
-pub const EXACT: usize = 176;
-
-pub const INDICES: usize = 224;
-
-pub const GAINS: usize = 228;
 
 // A function, how many answers of it were replayed, and how many of them were wrong.
 pub struct Count {
@@ -69,30 +37,54 @@ pub fn wide(b: u8) -> u64
     b as u64
 }
 
-// The numbers of 16, 32 and 64 bits at a place, the least significant byte first.
-pub fn number16(r: &Record, at: usize) -> u64
-    requires { ⌜ at + 2 ≤ 256 ⌝ }
-    ensures { λ v. ⌜ (v ≡ at16 (now (r .entry)) at) × (v < 0x1_0000) ⌝ }
+// The byte at a place, and the numbers of 16, 32 and 64 bits there, the least significant byte first.
+pub fn byte(r: &[u8], at: usize) -> u8
+    ensures { λ v. ⌜ v ≡ at8 (now (r .entry)) at ⌝ }
 {
-    wide(r[at]) + 256 * wide(r[at + 1])
+    if at < r.len() {
+        return r[at];
+    }
+    0
 }
 
-pub fn number32(r: &Record, at: usize) -> u64
-    requires { ⌜ at + 4 ≤ 256 ⌝ }
+pub fn number16(r: &[u8], at: usize) -> u64
+    requires { ⌜ at < 0x1_0000 ⌝ }
+    ensures { λ v. ⌜ (v ≡ at16 (now (r .entry)) at) × (v < 0x1_0000) ⌝ }
+{
+    wide(byte(r, at)) + 256 * wide(byte(r, at + 1))
+}
+
+pub fn number32(r: &[u8], at: usize) -> u64
+    requires { ⌜ at < 0x8000 ⌝ }
     ensures { λ v. ⌜ (v ≡ at32 (now (r .entry)) at) × (v < 0x1_0000_0000) ⌝ }
 {
     number16(r, at) + 0x1_0000 * number16(r, at + 2)
 }
 
-pub fn number64(r: &Record, at: usize) -> u64
-    requires { ⌜ at + 8 ≤ 256 ⌝ }
+pub fn number64(r: &[u8], at: usize) -> u64
+    requires { ⌜ at < 0x4000 ⌝ }
     ensures { λ v. ⌜ v ≡ at64 (now (r .entry)) at ⌝ }
 {
     number32(r, at) + 0x1_0000_0000 * number32(r, at + 4)
 }
 
+// The bytes from a place on, n of them as far as they are there.
+pub fn part(r: &[u8], at: usize, n: usize) -> &[u8]
+    ensures { λ s. ⌜ now s ≡ take n (drop at (now (r .entry))) ⌝ }
+{
+    let len = r.len();
+    if len < at {
+        return &r[len..len];
+    }
+    if len - at < n {
+        return &r[at..len];
+    }
+    let end = at + n;
+    &r[at..end]
+}
+
 // The position of the call.
-pub fn position(r: &Record) -> BitPos
+pub fn position(r: &[u8]) -> BitPos
     ensures { λ p. ⌜ p ≡ positionOf (now (r .entry)) ⌝ }
 {
     BitPos {
@@ -134,61 +126,23 @@ pub fn signed32(v: u64) -> i32
     }
 }
 
-// A length of the record, at most 24.
-pub fn size(b: u8) -> usize
-    ensures { λ n. ⌜ (n ≡ min 24 b) × (n ≤ 24) ⌝ }
-{
-    if b < 24 { b as usize } else { 24 }
-}
-
-// The input of the call.
-pub fn input(r: &Record) -> &[u8]
-    ensures { λ s. ⌜ now s ≡ inputOf (now (r .entry)) ⌝ }
-{
-    let all = &r[..];
-    let end = SRC + size(r[SRC_LEN]);
-    &all[SRC..end]
-}
-
 // Whether the answer has the record's refusal and value.
-pub fn same_value(r: &Record, refusal: u8, value: u64) -> bool
+pub fn same_value(r: &[u8], refusal: u8, value: u64) -> bool
     ensures { λ b. ⌜ b ≡ sameValue (now (r .entry)) refusal value ⌝ }
 {
-    r[REFUSAL] == refusal && number64(r, VALUE) == value
+    byte(r, REFUSAL) == refusal && number64(r, VALUE) == value
 }
 
 // Whether the position is the record's.
-pub fn same_place(r: &Record, p: BitPos) -> bool
+pub fn same_place(r: &[u8], p: BitPos) -> bool
     ensures { λ b. ⌜ b ≡ samePlace (now (r .entry)) p ⌝ }
 {
     number64(r, NEXT_BYTE) == p.byte as u64 && number32(r, NEXT_BIT) as u32 == p.bit
 }
 
-// Whether the n places of the output, in a copy of the record, are what the record has after the call.
-pub fn same_out(r: &Record, out: &Record, n: usize) -> bool
-    requires { ⌜ n ≤ 24 ⌝ }
-    ensures { λ b. ⌜ (b ≡ true → SameOut (now (r .entry)) (now (out .entry)) n) × (SameOut (now (r .entry)) (now (out .entry)) n → b ≡ true) ⌝ }
-{
-    let given = &out[..];
-    let wanted = &r[..];
-    let end = OUT + n;
-    let end_after = OUT_AFTER + n;
-    check::same(&given[OUT..end], &wanted[OUT_AFTER..end_after])
-}
-
-// Whether the answer of a call that writes is the record's.
-pub fn same_written(r: &Record, answer: BitMove) -> bool
-    ensures { λ b. ⌜ b ≡ sameWritten (now (r .entry)) answer ⌝ }
-{
-    match answer {
-        BitMove::Done(q) => same_value(r, 0, 0) && same_place(r, q),
-        BitMove::Refused(k) => same_value(r, k, 0),
-    }
-}
-
 // Whether y has the bits that the record has at a place. A NaN has no bits of its own, and no answer is one.
-pub fn same_float(r: &Record, at: usize, y: f32) -> bool
-    requires { ⌜ at + 4 ≤ 256 ⌝ }
+pub fn same_float(r: &[u8], at: usize, y: f32) -> bool
+    requires { ⌜ at < 0x8000 ⌝ }
     ensures { λ b. ⌜ b ≡ sameFloat (now (r .entry)) at y ⌝ }
 {
     if y != y {
@@ -197,31 +151,20 @@ pub fn same_float(r: &Record, at: usize, y: f32) -> bool
     f32::to_bits(y) == number32(r, at) as u32
 }
 
-// Whether the six have the bits of the output after the call.
-pub fn same_floats(r: &Record, y: &[f32; 6]) -> bool
-    ensures { λ b. ⌜ b ≡ sameFloats (now (r .entry)) (now (y .entry)) ⌝ }
-{
-    same_float(r, OUT_AFTER, y[0])
-        & same_float(r, OUT_AFTER + 4, y[1])
-        & same_float(r, OUT_AFTER + 8, y[2])
-        & same_float(r, OUT_AFTER + 12, y[3])
-        & same_float(r, OUT_AFTER + 16, y[4])
-        & same_float(r, OUT_AFTER + 20, y[5])
-}
-
-// The f32 of these bits. No record has a NaN, whose bits name no number.
+// The f32 of these bits; there is one NaN here, whatever its bits.
 fn float_of(bits: u32) -> f32
     ensures { λ x. ⌜ x ≡ floatOf bits ⌝ }
 {
     if 0x7f80_0000 < bits % 0x8000_0000 {
-        return 0.0;
+        let zero = 0.0f32;
+        return zero / zero;
     }
     f32::from_bits(bits)
 }
 
 // The f32 at a place.
-pub fn number(r: &Record, at: usize) -> f32
-    requires { ⌜ at + 4 ≤ 256 ⌝ }
+pub fn number(r: &[u8], at: usize) -> f32
+    requires { ⌜ at < 0x8000 ⌝ }
     ensures { λ x. ⌜ x ≡ floatOf (at32 (now (r .entry)) at) ⌝ }
 {
     float_of(number32(r, at) as u32)
@@ -273,7 +216,6 @@ pub fn print(c: Count) {
         15 => print_count(b"write_aht_channel", c),
         16 => print_count(b"read_aht_channel", c),
         17 => print_count(b"read_three", c),
-        18 => print_count(b"plan_write_read", c),
         _ => print_count(b"no function", c),
     }
 }
@@ -291,10 +233,10 @@ pub fn new_count(function: u8) -> Count
 
 // The count after the answer to a record. The records stand by function: where the next one begins, the count of the
 // last one is printed.
-pub fn counted(c: Count, r: &Record, ok: bool) -> Count
+pub fn counted(c: Count, r: &[u8], ok: bool) -> Count
     ensures { λ n. ⌜ n ≡ countAfter c (at8 (now (r .entry)) 0) ok ⌝ }
 {
-    let function = r[0];
+    let function = byte(r, 0);
     if c.function == function {
         return one_more(c, ok);
     }
@@ -305,6 +247,7 @@ pub fn counted(c: Count, r: &Record, ok: bool) -> Count
 }
 
 // Reads the next record; false where the input has no whole one any more. No contract can say what is read.
-pub fn next(r: &mut Record) -> bool {
-    io::read_full(STDIN_FILENO, &mut *r) == 256
+pub fn next(r: &mut [u8]) -> bool {
+    let len = r.len();
+    io::read_full(STDIN_FILENO, &mut *r) == len
 }

@@ -42,7 +42,7 @@ returns : tie.Need-returns
 returns c = not-this _ _ _ (c .if1 .taken)
 
 float-to-bits-result : tie.Need-float-to-bits-result
-float-to-bits-result c = is-number (c .before .args .y) (c .if1 .left)
+float-to-bits-result c = is-number (c .before .before .args .y) (c .if1 .left)
 
 returns-2 : tie.Need-returns-2
 returns-2 c = this _ _ _ (c .before .if1 .left) (c .number32 .ensures .0)

@@ -8,7 +8,7 @@ abbrev Inv-loop : tie.InvT-loop
 Inv-loop r gains₀ i₀ gains i = Unit {0}
 
 abbrev μ-loop : tie.MeasureT-loop
-μ-loop r gains₀ i₀ gains i = 8 - i
+μ-loop r gains₀ i₀ gains i = 256 - i
 
 loop-holds : tie.Need-loop-holds Inv-loop μ-loop
 loop-holds c = tt

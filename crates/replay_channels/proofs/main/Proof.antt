@@ -18,9 +18,6 @@ loop-holds c = tt
 next-requires : tie.Need-next-requires Inv-loop μ-loop
 next-requires c κs = tt
 
-right-requires : tie.Need-right-requires Inv-loop μ-loop
-right-requires c κs = tt
-
 counted-requires : tie.Need-counted-requires Inv-loop μ-loop
 counted-requires c κs = tt
 
@@ -42,5 +39,5 @@ returns c = tt
 pub main-spec : {M : Type 1} → statement M
 main-spec =
     tie.close
-    (tie.spec Inv-loop μ-loop new-count-requires loop-holds next-requires right-requires counted-requires sub-turns
+    (tie.spec Inv-loop μ-loop new-count-requires loop-holds next-requires counted-requires sub-turns
     loop-less loop-again print-requires returns)

@@ -8,7 +8,7 @@ abbrev Inv-loop : tie.InvT-loop
 Inv-loop r exact i₀ i = Unit {0}
 
 abbrev μ-loop : tie.MeasureT-loop
-μ-loop r exact i₀ i = 12 - i
+μ-loop r exact i₀ i = 48 - i
 
 loop-holds : tie.Need-loop-holds Inv-loop μ-loop
 loop-holds c = tt

@@ -5,10 +5,10 @@ use Rattle.replay_channels.proofs.vectors.Statement.{statement}
 use Rattle.replay_channels.proofs.vectors.Tie as tie
 
 abbrev Inv-loop : tie.InvT-loop
-Inv-loop r at x₀ j₀ x j = Unit {0}
+Inv-loop r x₀ j₀ x j = Unit {0}
 
 abbrev μ-loop : tie.MeasureT-loop
-μ-loop r at x₀ j₀ x j = 30 - j
+μ-loop r x₀ j₀ x j = 48 - j
 
 loop-holds : tie.Need-loop-holds Inv-loop μ-loop
 loop-holds c = tt

@@ -21,7 +21,6 @@ use Rattle.writer.specs.Written.{fieldOf, writtenOf, channelWritten}
 use Rattle.writer.proofs.Planned.{choice, field-long, is-written}
 use Rattle.reader.specs.Reading.{Call, call, readAnswer, answerTo, valuesAfter, exactAfter}
 use Rattle.promise3.specs.Promise.{Allowed, acceptedField, LongEnough, ShowsPlan}
-use Rattle.promise3.specs.Trip.{shownOf}
 use Rattle.promise3.proofs.Calls.{Found, answer-mode, answer-count, answer-gains, answer-bits, index-after, values-after, exacts-after}
 use Rattle.promise3.proofs.Bins.{index-shown, value-shown, exact-shown, pick-given}
 use Rattle.promise3.proofs.Plans.{given, count-is, gains-padded, gain-same, found-again}
@@ -95,7 +94,3 @@ module _ (row : List ℕ) (start end : ℕ) (x : List Float) (a : Allowed row st
             );
         values = λ k l u low high j few. subst (Scalar k j) (gain-same row start end x a k l u) (scalar k l u low high j few);
       }
-
-      -- the answer is the plan's
-      pub answer-is : answerTo row start end c ≡ shownOf p
-      answer-is = λ n. record { refusal = answered .0 n; mode = shows .mode n; gains = shows .gains n; count = shows .count n; bits = answered .1 n }

@@ -1,0 +1,487 @@
+//! The recorded answers of plan_aht_channel, write_aht_channel and read_aht_channel (functions 14, 15 and 16), 1024
+//! bytes each, least significant byte first, with up to eight bins: 0 function, 1 refusal, 2 mode, 3 length of the row,
+//! 4 how many components, 5 length of the bytes, 6 and 7 how many values and exact values, 8 position's byte (8 bytes),
+//! 16 its bit (4), 20 the plan's payload (4), 24 start (8), 32 end (8), 40 count (8), 48 how many indices, 56 the row
+//! (16), 72 gains (32), 104 the value (8), 112 and 120 the position after, 125 to 127 what the record is aimed at, 128
+//! vectors (192), 320 bytes (128), 448 bytes after (128), 576 values (192), 768 exact values (192), 960 indices (16).
+//!
+//! Mode, count and gains are the plan's that is handed in, or that was planned, or what was read. The value is the
+//! payload that was planned, or the bits of the field that was read. The gains that a writer gets are 256: the 32 again
+//! and again. Values, exact values and indices are bytes 0x42 before the call. A refused plan or read is zeros.
+use crate::eac3::ahtenc;
+use crate::random::Random;
+use crate::record::{aim, limits, Records, FAR, NO_NUMBERS};
+use crate::shown;
+use crate::signals::{cause, channel, fitting, some_plan, unit, vectors, with_field};
+use oxideav_core::bits::BitWriter;
+
+const PLAN: u8 = 14;
+const WRITE: u8 = 15;
+const READ: u8 = 16;
+
+/// Everything that one of the three calls is given.
+#[derive(Clone)]
+struct Call {
+    row: Vec<u8>,
+    x: Vec<f32>,
+    start: usize,
+    end: usize,
+    mode: u8,
+    gains: [u8; 32],
+    count: usize,
+    payload: u32,
+    bytes: Vec<u8>,
+    position: (usize, u32),
+    values: usize,
+    exact: usize,
+    indices: usize,
+}
+
+impl Call {
+    /// A call for these bins whose plan is the Rust's or another, with its field at a bit position of the bytes.
+    fn of(row: Vec<u8>, x: Vec<f32>, start: usize, end: usize, plan: &ahtenc::AhtChannelPlan, at: usize, random: &mut Random) -> Call {
+        let total = 2 + plan.payload_bits as usize;
+        let len = ((at + total).div_ceil(8) + random.below(3)).min(128);
+        let bytes = with_field(&random.bytes(len), at, plan, &row, start, end, &x).0;
+        // the places that no gain uses hold other numbers
+        let gains = core::array::from_fn(|i| plan.gains.get(i).map_or_else(|| 3 + random.below(250) as u8, |&code| [1, 2, 4][code as usize]));
+        let over = if random.below(5) == 0 { random.below(at / 8 + 1) } else { 0 };
+        let position = (at / 8 - over, (at % 8 + 8 * over) as u32);
+        let bins = row.len();
+        Call { row, x, start, end, mode: plan.gaqmod, gains, count: plan.gains.len(), payload: plan.payload_bits, bytes, position, values: 6 * bins, exact: 6 * bins, indices: bins }
+    }
+
+    fn drawn(random: &mut Random, bins: usize) -> Call {
+        let (row, x) = channel(random, bins);
+        let start = if random.below(3) == 0 { random.below(bins + 1) } else { 0 };
+        let end = start + if random.below(3) == 0 { random.below(bins - start + 1) } else { bins - start };
+        let plan = some_plan(random, &row, start, end, &x);
+        let at = random.below(40);
+        Call::of(row, x, start, end, &plan, at, random)
+    }
+
+    /// Five bins, of which the last four are called for, so that every cause can be put in: books, active bins, others.
+    fn plain(random: &mut Random) -> Call {
+        let row = vec![19, 9, 12, 3, 8];
+        let x = (0..30).map(|_| unit(random) - 0.5).collect::<Vec<_>>();
+        let plan = ahtenc::plan_aht_channel(&row, 1, 5, &vectors(&x));
+        Call::of(row, x, 1, 5, &plan, 11, random)
+    }
+
+    /// The number of bits where the position lies, if the bytes reach there.
+    fn at(&self) -> Option<usize> {
+        let at = 8 * self.position.0 as u128 + u128::from(self.position.1);
+        (at <= 8 * self.bytes.len() as u128).then_some(at as usize)
+    }
+
+    /// Cause 1 to 4 at the reader.
+    fn reader_cause(&self) -> u8 {
+        let short = self.end <= 256 && (self.values < 6 * self.end || self.exact < 6 * self.end || self.indices < self.end);
+        // the row's own, with vectors that are there and in order
+        match cause(&self.row, self.start, self.end, &[0.0; 6 * 256]) {
+            n @ 1..=2 => n,
+            _ if short => 3,
+            n => n,
+        }
+    }
+
+    /// Puts a cause into the call of a function.
+    fn put(&mut self, f: u8, number: u8, random: &mut Random) {
+        match number {
+            1 => self.start = self.end + 1,
+            2 => {
+                // a start above the end stays above it
+                let above = self.start > self.end;
+                self.end = random.pick(&[257, 300, usize::MAX - 1]);
+                self.start = if above { self.end + 1 } else { self.start };
+            }
+            3 => match (f, random.below(2)) {
+                (READ, 0) => self.exact = 6 * self.row.len() - 1,
+                (READ, _) | (_, 0) => self.row.truncate(self.row.len() - 1),
+                _ => self.x.truncate(self.x.len() - 1),
+            },
+            4 => self.row[1] = random.pick(&[20, 21, 64, 255]),
+            5 => self.x[6 + random.below(6)] = random.pick(&NO_NUMBERS),
+            6 => match random.below(3) {
+                0 => self.mode = 4,
+                1 => self.payload += 1,
+                _ => self.count += 1,
+            },
+            // past the end, or a byte less than it takes
+            7 | 8 => match random.below(3) {
+                0 => self.position = random.pick(&FAR),
+                1 => self.position = (self.bytes.len(), 1),
+                _ => self.bytes.truncate((self.at().unwrap() + 1 + self.payload as usize) / 8),
+            },
+            _ => unreachable!("other causes stand in the field"),
+        }
+    }
+
+    /// The record of a call with the answer that is due.
+    fn record(&self, f: u8) -> Record {
+        let mut r = Record([0; 1024]);
+        r.0[0] = f;
+        r.0[3..8].copy_from_slice(&[self.row.len() as u8, self.x.len() as u8, self.bytes.len() as u8, self.values as u8, self.exact as u8]);
+        r.0[48] = self.indices as u8;
+        r.number(8, self.position.0);
+        r.0[16..20].copy_from_slice(&self.position.1.to_le_bytes());
+        r.number(24, self.start);
+        r.number(32, self.end);
+        r.0[56..56 + self.row.len()].copy_from_slice(&self.row);
+        for (place, v) in r.0[128..320].chunks_exact_mut(4).zip(&self.x) {
+            place.copy_from_slice(&v.to_bits().to_le_bytes());
+        }
+        r.0[320..320 + self.bytes.len()].copy_from_slice(&self.bytes);
+        match f {
+            PLAN => self.planned(&mut r),
+            WRITE => self.written(&mut r),
+            _ => self.read(&mut r),
+        }
+        r
+    }
+
+    fn planned(&self, r: &mut Record) {
+        r.0[1] = cause(&self.row, self.start, self.end, &self.x);
+        if r.0[1] == 0 {
+            let p = ahtenc::plan_aht_channel(&self.row, self.start, self.end, &vectors(&self.x));
+            r.0[2] = p.gaqmod;
+            r.number(40, p.gains.len());
+            for (place, &code) in r.0[72..104].iter_mut().zip(&p.gains) {
+                *place = [1, 2, 4][code as usize];
+            }
+            r.number(104, p.payload_bits as usize);
+        }
+    }
+
+    fn written(&self, r: &mut Record) {
+        r.0[2] = self.mode;
+        r.number(40, self.count);
+        r.0[72..104].copy_from_slice(&self.gains);
+        r.0[20..24].copy_from_slice(&self.payload.to_le_bytes());
+        let mut after = self.bytes.clone();
+        r.0[1] = match cause(&self.row, self.start, self.end, &self.x) {
+            0 => match fitting(self.mode, &self.gains, self.count, self.payload, &self.row, self.start, self.end, &self.x) {
+                None => 6,
+                Some(plan) => {
+                    let total = 2 + self.payload as usize;
+                    match self.at().filter(|at| at + total <= 8 * self.bytes.len()) {
+                        None => 7,
+                        Some(at) => {
+                            after = with_field(&self.bytes, at, &plan, &self.row, self.start, self.end, &self.x).0;
+                            r.number(112, (at + total) / 8);
+                            r.0[120] = ((at + total) % 8) as u8;
+                            0
+                        }
+                    }
+                }
+            },
+            n => n,
+        };
+        r.0[448..448 + after.len()].copy_from_slice(&after);
+    }
+
+    fn read(&self, r: &mut Record) {
+        r.0[576..976].fill(0x42);
+        r.0[1] = match (self.reader_cause(), self.at()) {
+            (0, None) => 8,
+            (0, Some(at)) => match shown::read(&self.bytes, at, &self.row[self.start..self.end]) {
+                Err(number) => number,
+                Ok(s) => {
+                    r.0[2] = s.mode;
+                    r.number(40, s.gains.len());
+                    r.0[72..72 + s.gains.len()].copy_from_slice(&s.gains);
+                    r.number(104, s.bits);
+                    let (first, six) = (self.start, 6 * self.start);
+                    for (place, v) in r.0[576 + 4 * six..768].chunks_exact_mut(4).zip(&s.values) {
+                        place.copy_from_slice(&v.to_bits().to_le_bytes());
+                    }
+                    for (place, v) in r.0[768 + 4 * six..960].chunks_exact_mut(4).zip(&s.exact) {
+                        place.copy_from_slice(&v.to_le_bytes());
+                    }
+                    for (place, v) in r.0[960 + 2 * first..976].chunks_exact_mut(2).zip(&s.indices) {
+                        place.copy_from_slice(&v.to_le_bytes());
+                    }
+                    0
+                }
+            },
+            (n, _) => n,
+        };
+    }
+}
+
+struct Record([u8; 1024]);
+
+impl Record {
+    fn number(&mut self, at: usize, v: usize) {
+        self.0[at..at + 8].copy_from_slice(&v.to_le_bytes());
+    }
+    fn refusal(&self) -> u8 {
+        self.0[1]
+    }
+    fn aim(mut self, at: u8) -> Record {
+        self.0[127] = at;
+        self
+    }
+    fn two(mut self, a: u8, b: u8) -> Record {
+        self.0[125..128].copy_from_slice(&[a, b, aim::TWO_CAUSES]);
+        self
+    }
+    /// As a record that has this refusal.
+    fn with(self, number: u8) -> Record {
+        assert_eq!(self.refusal(), number, "a record of function {} has another refusal than it is aimed at", self.0[0]);
+        self
+    }
+}
+
+/// The records of the three functions, of each the aimed ones first, then 100 drawn at random.
+pub fn records(random: &mut Random) -> Vec<Records> {
+    let mut out = Vec::new();
+    for (f, name) in [(PLAN, "plan_aht_channel"), (WRITE, "write_aht_channel"), (READ, "read_aht_channel")] {
+        let mut of = Vec::new();
+        pairs(f, random, &mut of);
+        special(f, random, &mut of);
+        if f == READ {
+            fields(random, &mut of);
+        }
+        of.extend((0..100).map(|i| drawn(f, i, random)));
+        out.push(Records { name, bytes: of.iter().flat_map(|r| r.0).collect(), count: of.len() });
+    }
+    out
+}
+
+/// Any two causes that can hold together: the lower number is due.
+fn pairs(f: u8, random: &mut Random, out: &mut Vec<Record>) {
+    let last = [5, 7, 8][(f - PLAN) as usize];
+    for a in 1..last {
+        for b in a + 1..=last {
+            // no bin is between a start and an end below it; the reader has no vectors and no plan
+            if a == 1 && (b == 4 || b == 5) || f == READ && (5..=7).contains(&a) || f == READ && (5..=7).contains(&b) {
+                continue;
+            }
+            for _ in 0..2 {
+                let mut call = Call::plain(random);
+                // what looks at the bytes, the row or the vectors before what makes them shorter
+                let mut order = [b, a];
+                order.sort_by_key(|n| [8, 1, 2, 6, 3, 4, 5, 0, 0][*n as usize]);
+                for n in order {
+                    call.put(f, n, random);
+                }
+                out.push(call.record(f).with(a).two(a, b));
+            }
+        }
+    }
+}
+
+fn special(f: u8, random: &mut Random, out: &mut Vec<Record>) {
+    // each cause by itself, and cause 3 by each buffer
+    for number in 1..=[5, 7, 8][(f - PLAN) as usize] {
+        if f == READ && (5..=7).contains(&number) {
+            continue;
+        }
+        for _ in 0..3 {
+            let mut call = Call::plain(random);
+            call.put(f, number, random);
+            out.push(call.record(f).with(number));
+        }
+    }
+    for (at, buffer) in [(aim::SHORT_ROW, 0), (aim::SHORT_VECTORS, 1), (aim::SHORT_VALUES, 2), (aim::SHORT_EXACT, 3), (aim::SHORT_INDICES, 4)] {
+        let of_reader = buffer >= 2;
+        if buffer > 0 && of_reader != (f == READ) {
+            continue;
+        }
+        let mut call = Call::plain(random);
+        match buffer {
+            0 => call.row.truncate(4),
+            1 => call.x.truncate(29),
+            2 => call.values = 29,
+            3 => call.exact = 29,
+            _ => call.indices = 4,
+        }
+        out.push(call.record(f).with(3).aim(at));
+    }
+    for p in FAR {
+        if f != PLAN {
+            let mut call = Call::plain(random);
+            call.position = p;
+            out.push(call.record(f).with(if f == WRITE { 7 } else { 8 }).aim(aim::FAR));
+        }
+    }
+    // rows of six to eight bins, of each kind of gain words, and a start above 0
+    for k in 0..24 {
+        let bins = 6 + k % 3;
+        let row: Vec<u8> = (0..bins).map(|_| 14 + random.below(if k % 2 == 0 { 3 } else { 6 }) as u8).collect();
+        let loud = [0.1, 0.5, 1.0, 2.0][k / 3 % 4];
+        let x: Vec<f32> = (0..6 * bins).map(|_| (unit(random) - 0.5) * loud).collect();
+        let plan = some_plan(random, &row, 0, bins, &x);
+        let at = random.below(8);
+        let call = Call::of(row, x, 0, bins, &plan, at, random);
+        assert!(call.bytes.len() > 28);
+        out.push(call.record(f).with(0).aim(aim::LONG));
+    }
+    for k in 0..12 {
+        let (full, later) = (k % 2 == 0, k / 2 % 2);
+        let bins = if full { 6 } else { 4 + k % 3 };
+        let row: Vec<u8> = (0..later + bins).map(|_| 8 + random.below(9) as u8).collect();
+        let x: Vec<f32> = (0..6 * row.len()).map(|_| (unit(random) - 0.5) * 1.5).collect();
+        let plan = in_mode_3(&row, later, later + bins, &x, random);
+        let call = Call::of(row, x, later, later + bins, &plan, k, random);
+        let at = if full { aim::FULL_GROUPS } else { aim::GROUP_WORDS };
+        let at = if k >= 8 && later == 1 { aim::LATER_START } else { at };
+        out.push(call.record(f).with(0).aim(at));
+    }
+    if f != READ {
+        for (j, x) in limits().into_iter().chain(NO_NUMBERS).enumerate() {
+            let mut call = Call::plain(random);
+            call.x[6 + j] = x;
+            let plan = if x.abs() <= 1024.0 { Some(ahtenc::plan_aht_channel(&call.row, 1, 5, &vectors(&call.x))) } else { None };
+            let call = plan.map_or_else(|| call.clone(), |p| Call::of(call.row.clone(), call.x.clone(), 1, 5, &p, 3, random));
+            let at = if j < 6 { aim::LIMIT } else { aim::NO_NUMBER };
+            out.push(call.record(f).with(if x.abs() <= 1024.0 { 0 } else { 5 }).aim(at));
+        }
+        // components of hebap 0 are not looked at
+        for bad in NO_NUMBERS {
+            let mut call = Call::plain(random);
+            call.row[2] = 0;
+            call.x[12..18].fill(bad);
+            let plan = ahtenc::plan_aht_channel(&call.row, 1, 5, &vectors(&call.x));
+            let call = Call::of(call.row, call.x, 1, 5, &plan, 6, random);
+            out.push(call.record(f).with(0).aim(aim::NO_NUMBER));
+        }
+    }
+    // the last bit of the field is missing
+    if f != PLAN {
+        for _ in 0..8 {
+            let mut call = Call::drawn(random, 1 + out.len() % 8);
+            let total = 2 + call.payload as usize;
+            let at = (9 - total % 8) % 8;
+            let plan = fitting(call.mode, &call.gains, call.count, call.payload, &call.row, call.start, call.end, &call.x).unwrap();
+            call = Call::of(call.row, call.x, call.start, call.end, &plan, at, random);
+            call.bytes.truncate((at + total) / 8);
+            out.push(call.record(f).with(if f == WRITE { 7 } else { 8 }).aim(aim::BIT_SHORT));
+        }
+    }
+    if f == WRITE {
+        // cause 6 by one part of the plan alone
+        for k in 0..12 {
+            let mut call = Call::plain(random);
+            let plan = in_mode_3(&call.row, 1, 5, &call.x, random);
+            call = Call::of(call.row, call.x, 1, 5, &plan, 5, random);
+            let at = match k % 4 {
+                0 => {
+                    call.mode = [4, 255, 2][k / 4];
+                    aim::WRONG_MODE
+                }
+                1 => {
+                    call.count = [2, 4, usize::MAX][k / 4];
+                    aim::WRONG_COUNT
+                }
+                2 => {
+                    call.gains[k / 4] = [0, 3, 8][k / 4];
+                    aim::WRONG_GAIN
+                }
+                _ => {
+                    call.payload = [call.payload - 1, call.payload + 1, u32::MAX][k / 4];
+                    aim::WRONG_PAYLOAD
+                }
+            };
+            out.push(call.record(f).with(6).aim(at));
+        }
+        let mut others = 0;
+        while others < 8 {
+            let call = Call::drawn(random, 5);
+            let best = ahtenc::plan_aht_channel(&call.row, call.start, call.end, &vectors(&call.x));
+            if best.payload_bits < call.payload {
+                out.push(call.record(f).with(0).aim(aim::OTHER_PLAN));
+                others += 1;
+            }
+        }
+    }
+}
+
+/// A plan of mode 3 with gains drawn at will.
+fn in_mode_3(row: &[u8], start: usize, end: usize, x: &[f32], random: &mut Random) -> ahtenc::AhtChannelPlan {
+    loop {
+        let plan = some_plan(random, row, start, end, x);
+        if plan.gaqmod == 3 {
+            return plan;
+        }
+    }
+}
+
+/// Fields made bit by bit: the lowest code at Gk 1, and words of mode 3 that the reader refuses, before the bits run
+/// out and before it looks at padding.
+fn fields(random: &mut Random, out: &mut Vec<Record>) {
+    let field = |row: Vec<u8>, bytes: Vec<u8>, random: &mut Random| {
+        let mut call = Call::plain(random);
+        (call.start, call.end, call.values, call.exact, call.indices) = (0, row.len(), 6 * row.len(), 6 * row.len(), row.len());
+        (call.row, call.bytes, call.position) = (row, bytes, (0, 0));
+        call
+    };
+    for hebap in 8..=19u8 {
+        let m = u32::from(crate::eac3::aht::HEBAP_MANT_BITS[hebap as usize]);
+        let mut w = BitWriter::new();
+        w.write_u32(0, 2);
+        for k in 0..18 {
+            w.write_u32(if k % 4 == 1 { 1 << (m - 1) } else { k }, m);
+        }
+        out.push(field(vec![hebap; 3], w.finish(), random).record(READ).with(0).aim(aim::LOWEST_CODE));
+    }
+    for (words, bins, bits, number, a, b) in [
+        (&[27u32][..], 4, 7, 9, 8, 9),
+        (&[27], 1, 7, 9, 9, 10),
+        (&[1], 1, 7, 10, 8, 10),
+        (&[3], 1, 7, 10, 8, 10),
+        (&[25, 31], 5, 12, 9, 8, 9),
+        (&[25, 30], 4, 200, 9, 9, 10),
+        (&[0, 1], 5, 12, 10, 8, 10),
+        (&[26, 26, 10], 7, 17, 10, 8, 10),
+        (&[26, 27, 10], 7, 17, 9, 8, 9),
+        (&[26, 26, 28], 8, 17, 9, 9, 10),
+        (&[26, 26, 1], 8, 300, 10, 8, 10),
+        (&[27], 1, 6, 8, 8, 9),
+        (&[26, 1], 4, 11, 8, 8, 10),
+    ] {
+        let mut w = BitWriter::new();
+        let before = (8 - bits % 8) % 8;
+        w.write_u32(0x55, before as u32);
+        w.write_u32(3, 2);
+        words.iter().for_each(|&word| w.write_u32(word, 5));
+        while w.bits() < before + bits {
+            w.write_u32(0, 1);
+        }
+        let mut bytes = w.finish();
+        bytes.truncate((before + bits) / 8);
+        let mut call = field(vec![8; bins], bytes, random);
+        call.position = (0, before as u32);
+        out.push(call.record(READ).with(number).two(a, b));
+        // the row's causes come first
+        call.row[0] = 20;
+        out.push(call.record(READ).with(4).two(4, number));
+        call.indices = bins - 1;
+        out.push(call.record(READ).with(3).two(3, number));
+    }
+}
+
+/// A call drawn at random, some of them with a fault.
+fn drawn(f: u8, i: usize, random: &mut Random) -> Record {
+    let bins = random.below(9);
+    let mut call = Call::drawn(random, bins);
+    match i % 12 {
+        1 => call.start = random.below(bins + 2),
+        2 => call.end = random.pick(&[256, 257, usize::MAX]),
+        3 if bins > 0 => call.row[random.below(bins)] = 20 + random.below(236) as u8,
+        4 if bins > 0 => call.x[random.below(6 * bins)] = random.pick(&[f32::INFINITY, -1025.0, 1024.0, f32::NAN]),
+        5 => call.x.truncate(random.below(6 * bins + 1)),
+        6 => call.row.truncate(random.below(bins + 1)),
+        7 => call.bytes.truncate(random.below(call.bytes.len() + 1)),
+        8 => call.payload = call.payload.wrapping_add(random.pick(&[1, u32::MAX, 5])),
+        9 if f == READ => call.bytes.iter_mut().for_each(|b| *b = random.next() as u8),
+        10 if f == READ && !call.bytes.is_empty() => {
+            // bits of the mode and the gain words exchanged
+            let at = (call.at().unwrap() + random.below(9)).min(8 * call.bytes.len() - 1);
+            call.bytes[at / 8] ^= 1 << (7 - at % 8);
+        }
+        _ => {}
+    }
+    call.record(f)
+}
