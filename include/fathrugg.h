@@ -1,6 +1,6 @@
 /*
  * Fathrugg: the channel coder of the adaptive hybrid transform of E-AC-3, as proved calls. Link with libfathrugg.a
- * (pkg-config fathrugg), on x86-64 Linux.
+ * (pkg-config fathrugg), from C99 or C++ on x86-64 Linux.
  *
  * Answers. Each call answers 0, or the number of its refusal. Of causes that hold together it answers the first in
  * the order that the call's comment has them in. A refused call leaves every buffer, every number and every position
@@ -28,7 +28,7 @@
  * exceptions are masked, as is the default: with FE_INVALID or FE_INEXACT trapping (feenableexcept), a call may end the
  * program where it would answer, with 5 for a NaN for one.
  *
- * The library keeps no state and takes no memory but the stack, some 28 KB a call at most (docs/PERFORMANCE.md):
+ * The library keeps no state and takes no memory but the stack, some 28 KB a call at most:
  * calls may run at the same time.
  */
 #ifndef FATHRUGG_H
@@ -61,7 +61,7 @@ enum fathrugg_refusal {
     FATHRUGG_HEBAP_ABOVE_19 = 4,   /* a hebap is above 19 */
     FATHRUGG_COMPONENT = 5,        /* a vector's component is NaN, infinite or above 1024 in size */
     FATHRUGG_PLAN_MISFIT = 6,      /* the plan does not fit the row and the vectors */
-    FATHRUGG_OUTPUT_FULL = 7,      /* the output has too few bits from the position on, or the position is past its end */
+    FATHRUGG_OUTPUT_FULL = 7,      /* the output has too few bits from the position on, or it is past its end */
     FATHRUGG_INPUT_ENDS = 8,       /* the input runs out, or the position is past its end */
     FATHRUGG_GROUP_WORD = 9,       /* a group word of gains is above 26 */
     FATHRUGG_UNUSED_CODE = 10,     /* an unused code of the last group word is not 0 */

@@ -311,11 +311,11 @@ fn outputs(random: &mut Random, all: &mut Tally) {
     }
     // a position that no input reaches
     for p in [ours::Pos { byte: usize::MAX, bit: u32::MAX }, ours::Pos { byte: 0, bit: u32::MAX }, ours::Pos { byte: 2, bit: 0 }, ours::Pos { byte: 0, bit: 9 }] {
-        let mut got = patterned(random, 0);
-        let mut answer = ours::Channel::filled();
-        let mut next = p;
-        let refusal = ours::read_aht_channel(&[0], &mut next, &[], 0, 0, &mut got, &mut answer);
-        t.case(8, refusal == 8 && next == p && answer == ours::Channel::filled(), || format!("{p:?}: {refusal}, not 8"));
+        let mut got = patterned(random, 3);
+        let (before, mut answer, mut next) = (got.clone(), ours::Channel::filled(), p);
+        let refusal = ours::read_aht_channel(&[0], &mut next, &[0, 8, 1], 1, 1, &mut got, &mut answer);
+        let kept = next == p && answer == ours::Channel::filled() && got.bits() == before.bits();
+        t.case(8, refusal == 8 && kept, || format!("{p:?}: {refusal}, not 8"));
     }
     t.close(all);
 }

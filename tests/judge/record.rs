@@ -32,7 +32,7 @@ pub mod aim {
     pub const INEXACT: u8 = 6;
     /// The lowest code at Gk 1.
     pub const LOWEST_CODE: u8 = 7;
-    /// Six or more bins, with more than 28 bytes ahead of most.
+    /// Six or more bins, with more than 28 bytes ahead of some.
     pub const LONG: u8 = 8;
     /// Two group words or more, the last one not full.
     pub const GROUP_WORDS: u8 = 9;
@@ -62,7 +62,8 @@ pub mod aim {
 }
 
 /// Positions that no buffer reaches; 2^61 bytes are 2^64 bits, which would wrap to 0.
-pub const FAR: [(usize, u32); 6] = [(1 << 32, 0), (1 << 61, 0), ((1 << 61) - 1, 15), (usize::MAX, u32::MAX), (0, u32::MAX), (usize::MAX - 1, 16)];
+pub const FAR: [(usize, u32); 7] =
+    [(1 << 32, 0), (1 << 61, 0), ((1 << 61) - 1, 15), ((1 << 61) - 1, 7), (usize::MAX, u32::MAX), (0, u32::MAX), (usize::MAX - 1, 16)];
 
 /// Components that are no numbers; the replay has one NaN for all of them.
 pub const NO_NUMBERS: [f32; 4] = [f32::NAN, f32::INFINITY, f32::NEG_INFINITY, -f32::NAN];
@@ -257,7 +258,7 @@ fn special(f: u8, random: &mut Random) -> Vec<Record> {
                 }
                 let src = w.finish();
                 out.push(scalar(f, &src, 0, 0, hebap, 0, 0, 0).aim(aim::LOWEST_CODE));
-                let short = scalar(f, &src[..(6 * m as usize - 1) / 8], 0, 0, hebap, 0, 0, 0);
+                let short = scalar(f, &src, 8 * src.len() + 1 - 6 * m as usize, 0, hebap, 0, 0, 0);
                 assert_eq!(short.0[1], 8);
                 out.push(short.aim(aim::BIT_SHORT));
             }
@@ -583,6 +584,7 @@ fn one(f: u8, i: usize, random: &mut Random) -> Record {
         _ => {
             let (hebap, mode, code) = (random.below(22) as u8, random.below(5) as u8, random.below(4) as u8);
             let gaqbin = random.pick(&[1i8, 1, 0, -1]);
+            let (gaqbin, code) = if i % 5 == 0 { (random.pick(&[2i8, 127, -128, 1]), random.pick(&[1u8, 2, 9, 255])) } else { (gaqbin, code) };
             scalar(f, &src, at / 3, over, hebap, mode, gaqbin, code)
         }
     }

@@ -8,12 +8,12 @@
 //! Mode, count and gains are the plan's that is handed in, or that was planned, or what was read. The value is the
 //! payload that was planned, or the bits of the field that was read. The gains that a writer gets are 256: the 32 again
 //! and again. Values, exact values and indices are bytes 0x42 before the call. A refused plan or read is zeros.
-use crate::eac3::ahtenc;
+use crate::eac3::{aht, ahtenc};
 use crate::random::Random;
 use crate::record::{aim, limits, Records, FAR, NO_NUMBERS};
 use crate::shown;
-use crate::signals::{cause, channel, fitting, some_plan, unit, vectors, with_field};
-use oxideav_core::bits::BitWriter;
+use crate::signals::{bin_of, cause, channel, fitting, outside, some_plan, unit, vectors, with_field};
+use oxideav_core::bits::{BitReader, BitWriter};
 
 const PLAN: u8 = 14;
 const WRITE: u8 = 15;
@@ -85,8 +85,92 @@ impl Call {
         }
     }
 
-    /// Puts a cause into the call of a function.
-    fn put(&mut self, f: u8, number: u8, random: &mut Random) {
+    /// The bins that the row has, of those called for.
+    fn bins(&self) -> core::ops::Range<usize> {
+        self.start..self.end.min(self.row.len()).max(self.start)
+    }
+
+    /// Whether a cause of a function holds, whatever others do: docs/FORMAT.md, 'Causes and refusals'.
+    fn holds(&self, f: u8, number: u8) -> bool {
+        let six = |len: usize| (len as u128) < 6 * self.end as u128;
+        let short = match f {
+            READ => six(self.values) || six(self.exact) || self.indices < self.end,
+            _ => six(self.x.len()),
+        };
+        match number {
+            1 => self.start > self.end,
+            2 => self.end > 256,
+            3 => self.row.len() < self.end || short,
+            4 => self.bins().any(|k| self.row[k] > 19),
+            5 => self.bins().any(|k| self.row[k] != 0 && self.x.iter().skip(6 * k).take(6).any(|&v| outside(v))),
+            // by the plan alone where the row cannot be looked at
+            6 => {
+                let allowed: &[u8] = [&[1u8][..], &[1, 2], &[1, 4], &[1, 2, 4], &[]][self.mode.min(4) as usize];
+                self.mode > 3
+                    || self.count > 256
+                    || self.gains.iter().take(self.count).any(|g| !allowed.contains(g))
+                    || (1..=5).all(|n| !self.holds(WRITE, n)) && fitting(self.mode, &self.gains, self.count, self.payload, &self.row, self.start, self.end, &self.x).is_none()
+            }
+            7 => self.at().is_none_or(|at| at + 2 + self.payload as usize > 8 * self.bytes.len()),
+            _ => self.field_causes().contains(&number),
+        }
+    }
+
+    /// Causes 8, 9 and 10 of the bits at the position, for the bins whose hebap is known: the bits run out; a group word
+    /// that is there is above 26; a missing code of the last one, which is there, is not 0.
+    fn field_causes(&self) -> Vec<u8> {
+        let part: Vec<u8> = self.bins().map(|k| self.row[k]).filter(|&h| h <= 19).collect();
+        let Some(at) = self.at() else { return vec![8] };
+        let mut long = self.bytes.clone();
+        long.extend([0; 200]);
+        let mut br = BitReader::at(&long, at).unwrap();
+        let mode = br.read_u32(2).unwrap() as u8;
+        let mut marks = vec![0i8; part.len()];
+        let marked = aht::fill_gaqbin(&part, mode, &mut marks);
+        let active = if mode == 0 { 0 } else { marked };
+        let (mut codes, mut out) = (Vec::new(), Vec::new());
+        for _ in 0..aht::gaq_sections(mode, active) {
+            let before = br.taken();
+            let mut three = [0u8; 3];
+            let n = aht::read_gaq_gains(&mut br, mode, 1, &mut three).unwrap();
+            codes.extend(&three[..n]);
+            if mode == 3 && br.taken() <= 8 * self.bytes.len() {
+                let word = BitReader::at(&long, before).unwrap().read_u32(5).unwrap();
+                if word > 26 {
+                    out.push(9);
+                }
+                if codes.len() > active && codes[active..].iter().any(|&c| c != 0) {
+                    out.push(10);
+                }
+            }
+        }
+        let mut gains = codes.iter();
+        for (&h, &mark) in part.iter().zip(&marks) {
+            match h {
+                0 => {}
+                1..=7 => drop(br.read_u32(u32::from(aht::VQ_BITS[h as usize])).unwrap()),
+                _ => {
+                    let code = if mode > 0 && mark == 1 { *gains.next().unwrap() } else { 0 };
+                    aht::read_scalar_aht_mantissas(&mut br, h, mode, mark, code, &mut [0.0; 6]).unwrap();
+                }
+            }
+        }
+        if br.taken() > 8 * self.bytes.len() {
+            out.push(8);
+        }
+        out
+    }
+
+    /// The record of a call of which both causes hold.
+    fn two(&self, f: u8, a: u8, b: u8) -> Record {
+        assert!(self.holds(f, a) && self.holds(f, b), "function {f}: causes {a} and {b} do not both hold");
+        let mut r = self.record(f);
+        r.0[125..128].copy_from_slice(&[a, b, aim::TWO_CAUSES]);
+        r
+    }
+
+    /// Puts a cause into the call of a function; 4 and 5 into a bin.
+    fn put(&mut self, f: u8, number: u8, bin: usize, random: &mut Random) {
         match number {
             1 => self.start = self.end + 1,
             2 => {
@@ -100,18 +184,18 @@ impl Call {
                 (READ, _) | (_, 0) => self.row.truncate(self.row.len() - 1),
                 _ => self.x.truncate(self.x.len() - 1),
             },
-            4 => self.row[1] = random.pick(&[20, 21, 64, 255]),
-            5 => self.x[6 + random.below(6)] = random.pick(&NO_NUMBERS),
+            4 => self.row[bin] = random.pick(&[20, 21, 64, 255]),
+            5 => self.x[6 * bin + random.below(6)] = random.pick(&NO_NUMBERS),
             6 => match random.below(3) {
                 0 => self.mode = 4,
-                1 => self.payload += 1,
-                _ => self.count += 1,
+                1 => self.gains[0] = 3,
+                _ => self.count = usize::MAX,
             },
-            // past the end, or a byte less than it takes
+            // past the end, or no byte of the field there
             7 | 8 => match random.below(3) {
                 0 => self.position = random.pick(&FAR),
                 1 => self.position = (self.bytes.len(), 1),
-                _ => self.bytes.truncate((self.at().unwrap() + 1 + self.payload as usize) / 8),
+                _ => self.bytes.truncate(self.at().unwrap() / 8 + 1),
             },
             _ => unreachable!("other causes stand in the field"),
         }
@@ -119,6 +203,8 @@ impl Call {
 
     /// The record of a call with the answer that is due.
     fn record(&self, f: u8) -> Record {
+        let places = [self.row.len() <= 16, self.x.len() <= 48, self.bytes.len() <= 128, self.values <= 48, self.exact <= 48, self.indices <= 8];
+        assert_eq!(places, [true; 6], "the call has its places in a record");
         let mut r = Record([0; 1024]);
         r.0[0] = f;
         r.0[3..8].copy_from_slice(&[self.row.len() as u8, self.x.len() as u8, self.bytes.len() as u8, self.values as u8, self.exact as u8]);
@@ -222,10 +308,6 @@ impl Record {
         self.0[127] = at;
         self
     }
-    fn two(mut self, a: u8, b: u8) -> Record {
-        self.0[125..128].copy_from_slice(&[a, b, aim::TWO_CAUSES]);
-        self
-    }
     /// As a record that has this refusal.
     fn with(self, number: u8) -> Record {
         assert_eq!(self.refusal(), number, "a record of function {} has another refusal than it is aimed at", self.0[0]);
@@ -258,15 +340,20 @@ fn pairs(f: u8, random: &mut Random, out: &mut Vec<Record>) {
             if a == 1 && (b == 4 || b == 5) || f == READ && (5..=7).contains(&a) || f == READ && (5..=7).contains(&b) {
                 continue;
             }
-            for _ in 0..2 {
+            // the two in one bin, the one before the other and behind it
+            for (at_a, at_b) in [(2, 2), (1, 3), (3, 1)] {
                 let mut call = Call::plain(random);
-                // what looks at the bytes, the row or the vectors before what makes them shorter
-                let mut order = [b, a];
-                order.sort_by_key(|n| [8, 1, 2, 6, 3, 4, 5, 0, 0][*n as usize]);
-                for n in order {
-                    call.put(f, n, random);
+                // what looks at the row or the vectors before what makes them shorter
+                let mut order = [(b, at_b), (a, at_a)];
+                order.sort_by_key(|(n, _)| [8, 1, 2, 6, 3, 4, 5, 0, 0][*n as usize]);
+                for (n, bin) in order {
+                    call.put(f, n, bin, random);
                 }
-                out.push(call.record(f).with(a).two(a, b));
+                if (a, b) == (1, 8) {
+                    // of no bins only the position can be past the end
+                    call.position = random.pick(&FAR);
+                }
+                out.push(call.two(f, a, b).with(a));
             }
         }
     }
@@ -280,7 +367,7 @@ fn special(f: u8, random: &mut Random, out: &mut Vec<Record>) {
         }
         for _ in 0..3 {
             let mut call = Call::plain(random);
-            call.put(f, number, random);
+            call.put(f, number, 1 + out.len() % 4, random);
             out.push(call.record(f).with(number));
         }
     }
@@ -298,6 +385,20 @@ fn special(f: u8, random: &mut Random, out: &mut Vec<Record>) {
             _ => call.indices = 4,
         }
         out.push(call.record(f).with(3).aim(at));
+    }
+    // start = end: no bin is looked at, and causes 2 and 3 hold all the same
+    for (bins, number) in [(5, 0), (6, 3), (257, 2)] {
+        let mut call = Call::plain(random);
+        (call.start, call.end) = (bins, bins);
+        (call.mode, call.count, call.payload) = (0, 0, 0);
+        out.push(call.record(f).with(number));
+    }
+    // a hebap above 19 and a NaN that no bin called for has
+    for _ in 0..2 {
+        let mut call = Call::plain(random);
+        call.row[0] = 20 + random.below(236) as u8;
+        call.x[random.below(6)] = f32::NAN;
+        out.push(call.record(f).with(0));
     }
     for p in FAR {
         if f != PLAN {
@@ -320,11 +421,17 @@ fn special(f: u8, random: &mut Random, out: &mut Vec<Record>) {
     }
     for k in 0..12 {
         let (full, later) = (k % 2 == 0, k / 2 % 2);
-        let bins = if full { 6 } else { 4 + k % 3 };
-        let row: Vec<u8> = (0..later + bins).map(|_| 8 + random.below(9) as u8).collect();
-        let x: Vec<f32> = (0..6 * row.len()).map(|_| (unit(random) - 0.5) * 1.5).collect();
-        let plan = in_mode_3(&row, later, later + bins, &x, random);
-        let call = Call::of(row, x, later, later + bins, &plan, k, random);
+        let bins = if full { 6 } else { 4 + k / 2 % 2 };
+        let call = loop {
+            let row: Vec<u8> = (0..later + bins).map(|_| 8 + random.below(9) as u8).collect();
+            let x: Vec<f32> = row.iter().flat_map(|_| six_of(random)).collect();
+            // the planner's answer has group words only where its own plan does
+            let plan = if f == PLAN { ahtenc::plan_aht_channel(&row, later, later + bins, &vectors(&x)) } else { in_mode_3(&row, later, later + bins, &x, random) };
+            if plan.gaqmod == 3 {
+                assert_eq!(plan.gains.len(), bins);
+                break Call::of(row, x, later, later + bins, &plan, k, random);
+            }
+        };
         let at = if full { aim::FULL_GROUPS } else { aim::GROUP_WORDS };
         let at = if k >= 8 && later == 1 { aim::LATER_START } else { at };
         out.push(call.record(f).with(0).aim(at));
@@ -386,6 +493,16 @@ fn special(f: u8, random: &mut Random, out: &mut Vec<Record>) {
             };
             out.push(call.record(f).with(6).aim(at));
         }
+        // gains of another mode, with the payload that they would cost
+        for (mode, gk) in [(1, 4), (2, 2)] {
+            let mut call = Call::plain(random);
+            let (row, x) = (vec![9u8], call.x[..6].to_vec());
+            let plan = ahtenc::AhtChannelPlan { gaqmod: mode, gains: vec![gk / 2], payload_bits: 1 + bin_of(9, gk, x[..].try_into().unwrap()).0 };
+            call = Call::of(row, x, 0, 1, &ahtenc::plan_aht_channel(&[9], 0, 1, &vectors(&call.x[..6])), 5, random);
+            (call.mode, call.gains[0], call.count, call.payload) = (mode, gk, 1, plan.payload_bits);
+            call.bytes.resize(40, 0x55);
+            out.push(call.record(f).with(6).aim(aim::WRONG_GAIN));
+        }
         let mut others = 0;
         while others < 8 {
             let call = Call::drawn(random, 5);
@@ -396,6 +513,12 @@ fn special(f: u8, random: &mut Random, out: &mut Vec<Record>) {
             }
         }
     }
+}
+
+/// Six components, as loud as no other bin's, so that gains differ.
+fn six_of(random: &mut Random) -> [f32; 6] {
+    let loud = random.pick(&[2.0, 0.6, 0.3, 0.1, 0.02]);
+    core::array::from_fn(|_| (unit(random) - 0.5) * loud)
 }
 
 /// A plan of mode 3 with gains drawn at will.
@@ -418,7 +541,7 @@ fn fields(random: &mut Random, out: &mut Vec<Record>) {
         call
     };
     for hebap in 8..=19u8 {
-        let m = u32::from(crate::eac3::aht::HEBAP_MANT_BITS[hebap as usize]);
+        let m = u32::from(aht::HEBAP_MANT_BITS[hebap as usize]);
         let mut w = BitWriter::new();
         w.write_u32(0, 2);
         for k in 0..18 {
@@ -426,20 +549,24 @@ fn fields(random: &mut Random, out: &mut Vec<Record>) {
         }
         out.push(field(vec![hebap; 3], w.finish(), random).record(READ).with(0).aim(aim::LOWEST_CODE));
     }
-    for (words, bins, bits, number, a, b) in [
-        (&[27u32][..], 4, 7, 9, 8, 9),
-        (&[27], 1, 7, 9, 9, 10),
-        (&[1], 1, 7, 10, 8, 10),
-        (&[3], 1, 7, 10, 8, 10),
-        (&[25, 31], 5, 12, 9, 8, 9),
-        (&[25, 30], 4, 200, 9, 9, 10),
-        (&[0, 1], 5, 12, 10, 8, 10),
-        (&[26, 26, 10], 7, 17, 10, 8, 10),
-        (&[26, 27, 10], 7, 17, 9, 8, 9),
-        (&[26, 26, 28], 8, 17, 9, 9, 10),
-        (&[26, 26, 1], 8, 300, 10, 8, 10),
-        (&[27], 1, 6, 8, 8, 9),
-        (&[26, 1], 4, 11, 8, 8, 10),
+    // group words, how many bins of hebap 8, and how many bits are there
+    for (words, bins, bits, number) in [
+        (&[27u32][..], 4, 7, 9),
+        (&[28], 1, 7, 9),
+        (&[28], 1, 60, 9),
+        (&[1], 1, 7, 10),
+        (&[3], 1, 7, 10),
+        (&[9], 1, 7, 8),
+        (&[25, 31], 5, 12, 9),
+        (&[25, 30], 4, 200, 9),
+        (&[0, 1], 5, 12, 10),
+        (&[26, 26, 10], 7, 17, 10),
+        (&[26, 27, 10], 7, 17, 9),
+        (&[26, 26, 28], 8, 17, 9),
+        (&[26, 26, 1], 8, 300, 10),
+        (&[27], 1, 6, 8),
+        (&[26, 1], 4, 11, 8),
+        (&[26, 26, 18], 7, 600, 0),
     ] {
         let mut w = BitWriter::new();
         let before = (8 - bits % 8) % 8;
@@ -453,12 +580,28 @@ fn fields(random: &mut Random, out: &mut Vec<Record>) {
         bytes.truncate((before + bits) / 8);
         let mut call = field(vec![8; bins], bytes, random);
         call.position = (0, before as u32);
-        out.push(call.record(READ).with(number).two(a, b));
-        // the row's causes come first
-        call.row[0] = 20;
-        out.push(call.record(READ).with(4).two(4, number));
-        call.indices = bins - 1;
-        out.push(call.record(READ).with(3).two(3, number));
+        let causes = call.field_causes();
+        out.push(call.record(READ).with(number));
+        for (i, &a) in causes.iter().enumerate() {
+            for &b in &causes[i + 1..] {
+                out.push(call.two(READ, a.min(b), a.max(b)).with(number));
+            }
+        }
+        // the row's causes come first: an end that is too high, an output that is too short, a bin in front
+        for &n in &causes {
+            let mut high = call.clone();
+            high.end = 300;
+            out.push(high.two(READ, 2, n).with(2));
+            let mut short = call.clone();
+            short.indices = bins - 1;
+            out.push(short.two(READ, 3, n).with(3));
+            if bins < 8 {
+                let mut unknown = call.clone();
+                unknown.row.insert(0, 20);
+                (unknown.end, unknown.values, unknown.exact, unknown.indices) = (bins + 1, 6 * bins + 6, 6 * bins + 6, bins + 1);
+                out.push(unknown.two(READ, 4, n).with(4));
+            }
+        }
     }
 }
 

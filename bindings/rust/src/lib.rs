@@ -5,10 +5,10 @@
 //! for each bin, from bin 0 on. The **vectors** have six components for each bin, from bin 0 on, one behind the
 //! other: those of the bin k are the places `6 * k` to `6 * k + 5`. A call works on the bins `start` to `end - 1`.
 //!
-//! [`plan_aht_channel`] finds the mode and the gains of fewest bits, [`write_aht_channel`] puts the field of a plan into
-//! an output, with exactly the bits that the plan announces, and [`read_aht_channel`] reads a field back. The small
-//! calls under them, such as [`vq_search`], [`quantise_bin`] and [`read_u32`], are there too. Functions and plan have
-//! the names of the Rust that the library was ported from; a plan's gains are Gk (1, 2, 4) here, not codes.
+//! [`plan_aht_channel`] finds the mode and the gains of fewest bits, [`write_aht_channel`] puts the field of a plan
+//! into an output, with exactly the bits that the plan announces, and [`read_aht_channel`] reads a field back. The
+//! small calls under them, such as [`vq_search`], [`quantise_bin`] and [`read_u32`], are there too. Functions and plan
+//! have the names of the Rust that the library was ported from; a plan's gains are Gk (1, 2, 4) here, not codes.
 //!
 //! ```
 //! use fathrugg::{plan_aht_channel, read_aht_channel, write_aht_channel, AhtChannelPlan, Position};
@@ -42,8 +42,8 @@
 //! What is proved is the library: that its functions meet their contracts for every input and stay inside their
 //! buffers. These declarations of them are not.
 //!
-//! It needs no `std`, takes no memory but the stack, and links on x86-64 Linux. Floating-point exceptions must be
-//! masked, as they are by default.
+//! It needs no `std`, takes no memory but the stack, and links on x86-64 Linux. Floats must be rounded to nearest,
+//! subnormal numbers not be flushed to zero, and floating-point exceptions be masked, as is the default.
 #![no_std]
 #![warn(missing_docs)]
 
@@ -53,9 +53,9 @@ use core::fmt;
 /// The places for gains, one for each bin that there may be.
 const PLACES: usize = 256;
 
-// As crates/fathrugg/src/lib.rt has them: a slice is a pointer and its length, an array a pointer alone. Each answers
-// the number of its refusal, 0 for none, asks nothing of its arguments but that the pointers are good, and keeps none
-// of them.
+// As the modules of crates/fathrugg/src have them: a slice is a pointer and its length, an array a pointer alone. Each
+// answers the number of its refusal, 0 for none, asks nothing of its arguments but that the pointers are good, and
+// keeps none of them.
 extern "C" {
     fn fathrugg_version() -> u32;
     fn fathrugg_plan_aht_channel(
@@ -169,12 +169,14 @@ pub enum Refusal {
     UnknownToQuantiser,
     /// 12: a mode is above 3, a count of bits above 32, or a mask outside -65536 to 65536.
     ArgumentOutOfRange,
+    /// 13: the desk's text is malformed. No function of this crate answers it.
+    TextMalformed,
     /// A number that this version has no name for: the library that is linked is a later one.
     Other(u8),
 }
 
 /// The refusals that have a name, in the order of their numbers from 1 on.
-const NAMED: [Refusal; 12] = [
+const NAMED: [Refusal; 13] = [
     Refusal::StartAboveEnd,
     Refusal::EndAbove256,
     Refusal::TooShort,
@@ -187,6 +189,7 @@ const NAMED: [Refusal; 12] = [
     Refusal::UnusedCodeNotZero,
     Refusal::UnknownToQuantiser,
     Refusal::ArgumentOutOfRange,
+    Refusal::TextMalformed,
 ];
 
 impl Refusal {
@@ -222,6 +225,7 @@ impl fmt::Display for Refusal {
             Refusal::UnusedCodeNotZero => "an unused code of the last group word is not 0",
             Refusal::UnknownToQuantiser => "the quantiser is asked for a hebap or gain that it does not have",
             Refusal::ArgumentOutOfRange => "a mode is above 3, a count of bits above 32, or a mask outside -65536 to 65536",
+            Refusal::TextMalformed => "the desk's text is malformed",
             Refusal::Other(number) => return write!(f, "refusal {number}, which this version does not know"),
         })
     }
@@ -572,8 +576,8 @@ pub fn gaq_gain_value(code: u8, gaqmod: u8) -> Result<u8, Refusal> {
 }
 
 /// Reads `nsections` gain words and puts their codes, 0 to 2, to the front of the output, as far as it goes; moves
-/// the position. It is laxer than [`read_aht_channel`]: of a group word above 26 the first code is cut to 2. How many codes were
-/// put there is the answer.
+/// the position. It is laxer than [`read_aht_channel`]: of a group word above 26 the first code is cut to 2. How many
+/// codes were put there is the answer.
 ///
 /// Refusals 12, then 8.
 pub fn read_gaq_gains(src: &[u8], position: &mut Position, gaqmod: u8, nsections: usize, out: &mut [u8]) -> Result<usize, Refusal> {

@@ -495,7 +495,7 @@ fn numbers_and_words() {
     for number in 1..=255 {
         let refusal = Refusal::from_number(number).unwrap();
         assert_eq!(refusal.number(), number);
-        assert_eq!(refusal == Refusal::Other(number), number > 12);
+        assert_eq!(refusal == Refusal::Other(number), number > 13);
         let error: Box<dyn Error> = Box::new(refusal);
         words.push(error.to_string());
     }

@@ -1,5 +1,5 @@
-// The quantiser: which code is picked for a mantissa. The operations are the Rust's, but that it multiplies by 1 / 2^n
-// where the Rust divides by 2^n, which is proved to give the same f32.
+// The quantiser: which code is picked for a mantissa. The operations are the Rust's, but that the levels of large codes
+// are multiplied by 1 / 2^n where the Rust divides by 2^n, which is proved to give the same f32.
 ghost use mathlib.Core.Path.{_≡_};
 ghost use Prim.Native.Nat.{_≤_};
 ghost use lib.ListN.{length};
