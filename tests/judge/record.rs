@@ -266,10 +266,9 @@ fn special(f: u8, random: &mut Random) -> Vec<Record> {
         // vq_search
         11 => {
             for hebap in 1..=7 {
-                for other in OTHERS {
+                for (other, at) in OTHERS {
                     for x in nearly_tied(hebap, other, random) {
                         let index = ahtenc::vq_search(hebap, &x);
-                        let at = if other as usize == last as usize { aim::TIE } else { aim::NEAR_TIE };
                         out.push(Record::new(f).args(&[hebap]).vectors(&x).answer(0, index, 0).aim(at));
                     }
                 }
@@ -350,7 +349,13 @@ pub fn limits() -> [f32; 6] {
 /// Searches that are nearly the Rust's: the last two components added in the other order, all of them backwards, in
 /// f64, with fused operations, and the last of equals taken.
 type Search = fn(&[[f32; 6]], &[f32; 6]) -> usize;
-const OTHERS: [Search; 5] = [exchanged, backwards, wider, fused, last];
+const OTHERS: [(Search, u8); 5] = [
+    (exchanged, aim::NEAR_TIE),
+    (backwards, aim::NEAR_TIE),
+    (wider, aim::NEAR_TIE),
+    (fused, aim::NEAR_TIE),
+    (last, aim::TIE),
+];
 
 fn first_least(d: impl Iterator<Item = f64>) -> usize {
     d.enumerate().fold((0, f64::INFINITY), |best, (i, d)| if d < best.1 { (i, d) } else { best }).0
