@@ -32,11 +32,11 @@ abbrev pub bitOfPlace : ℕ → ℕ → ℕ
 bitOfPlace byte bit = bitAt (place byte bit)
 
 -- the calls at it
-abbrev pub readAt : List ℕ → ℕ → ℕ → ℕ → BitRead
-readAt s byte bit n = readU32 s (bitOfPlace byte bit) n
+abbrev pub readU32At : List ℕ → ℕ → ℕ → ℕ → BitRead
+readU32At s byte bit n = readU32 s (bitOfPlace byte bit) n
 
-abbrev pub writeAt : List ℕ → ℕ → ℕ → ℕ → BitMove
-writeAt s byte bit n = writeU32 s (bitOfPlace byte bit) n
+abbrev pub writeU32At : List ℕ → ℕ → ℕ → ℕ → BitMove
+writeU32At s byte bit n = writeU32 s (bitOfPlace byte bit) n
 
 abbrev pub gainsAt : List ℕ → ℕ → ℕ → ℕ → ℕ → ℕ → GainsResult
 gainsAt s byte bit mode n places = readGaqGains s (bitOfPlace byte bit) mode n places
@@ -70,5 +70,5 @@ abbrev pub placeAfter : BitPos → ChannelRead → BitPos
 placeAfter p r = fromRead r (λ c. posOf (bitAt p + c .bits)) p
 
 -- the plan that C lends part by part
-abbrev pub planFrom : ℕ → List ℕ → ℕ → ℕ → Plan
-planFrom mode gains count payload = record { mode = mode; gains = gains; count = count; payload = payload }
+abbrev pub lentPlan : ℕ → List ℕ → ℕ → ℕ → Plan
+lentPlan mode gains count payload = record { mode = mode; gains = gains; count = count; payload = payload }

@@ -1,7 +1,7 @@
 // Numbers of n bits, read and written.
 ghost use mathlib.Core.Path.{_≡_};
 ghost use Rattle.bits.specs.Bits.{written, readNumber, readValue, readPlace, moveNumber, movePlace};
-ghost use Rattle.fathrugg.specs.Answers.{place, bitOfPlace, readAt, writeAt};
+ghost use Rattle.fathrugg.specs.Answers.{place, bitOfPlace, readU32At, writeU32At};
 use bits::BitMove;
 use bits::BitPos;
 use bits::BitRead;
@@ -15,10 +15,10 @@ pub extern "C" fn fathrugg_read_u32(
     n: u32,
     value: &mut u32,
 ) -> u8
-    ensures { λ r. ⌜ r ≡ readNumber (readAt (now (src .entry)) (now (byte .entry)) (now (bit .entry)) n) ⌝ }
-    ensures { λ r. ⌜ now (value .exit) ≡ readValue (now (value .entry)) (readAt (now (src .entry)) (now (byte .entry)) (now (bit .entry)) n) ⌝ }
+    ensures { λ r. ⌜ r ≡ readNumber (readU32At (now (src .entry)) (now (byte .entry)) (now (bit .entry)) n) ⌝ }
+    ensures { λ r. ⌜ now (value .exit) ≡ readValue (now (value .entry)) (readU32At (now (src .entry)) (now (byte .entry)) (now (bit .entry)) n) ⌝ }
     ensures { λ r. ⌜ place (now (byte .exit)) (now (bit .exit)) ≡ readPlace (place (now (byte .entry)) (now (bit .entry)))
-        (readAt (now (src .entry)) (now (byte .entry)) (now (bit .entry)) n) ⌝ }
+        (readU32At (now (src .entry)) (now (byte .entry)) (now (bit .entry)) n) ⌝ }
 {
     let p = BitPos {
         byte: *byte,
@@ -45,9 +45,9 @@ pub extern "C" fn fathrugg_write_u32(
     v: u32,
     n: u32,
 ) -> u8
-    ensures { λ r. ⌜ r ≡ moveNumber (writeAt (now (out .entry)) (now (byte .entry)) (now (bit .entry)) n) ⌝ }
+    ensures { λ r. ⌜ r ≡ moveNumber (writeU32At (now (out .entry)) (now (byte .entry)) (now (bit .entry)) n) ⌝ }
     ensures { λ r. ⌜ place (now (byte .exit)) (now (bit .exit)) ≡ movePlace (place (now (byte .entry)) (now (bit .entry)))
-        (writeAt (now (out .entry)) (now (byte .entry)) (now (bit .entry)) n) ⌝ }
+        (writeU32At (now (out .entry)) (now (byte .entry)) (now (bit .entry)) n) ⌝ }
     ensures { λ r. ⌜ now (out .exit) ≡ written (now (out .entry)) (bitOfPlace (now (byte .entry)) (now (bit .entry))) v n ⌝ }
 {
     let p = BitPos {

@@ -3,7 +3,7 @@ ghost use mathlib.Core.Path.{_≡_};
 ghost use Rattle.planner.specs.Planning.{planned};
 ghost use Rattle.writer.specs.Written.{channelWritten, writeNumber, writePlace};
 ghost use Rattle.reader.specs.Reading.{answerTo, valuesAfter, exactAfter, indicesAfter};
-ghost use Rattle.fathrugg.specs.Answers.{place, bitOfPlace, channelAt, callAt, placeAfter, fromPlan, fromRead, planFrom};
+ghost use Rattle.fathrugg.specs.Answers.{place, bitOfPlace, channelAt, callAt, placeAfter, fromPlan, fromRead, lentPlan};
 use bits::BitPos;
 use planner::Plan;
 use planner::Planned;
@@ -60,11 +60,11 @@ pub extern "C" fn fathrugg_write_aht_channel(
     byte: &mut usize,
     bit: &mut u32,
 ) -> u8
-    ensures { λ r. ⌜ r ≡ writeNumber (channelAt (planFrom mode (now (gains .entry)) count payload)
+    ensures { λ r. ⌜ r ≡ writeNumber (channelAt (lentPlan mode (now (gains .entry)) count payload)
         (now (hebap .entry)) start end (now (x .entry)) (now (out .entry)) (now (byte .entry)) (now (bit .entry))) ⌝ }
-    ensures { λ r. ⌜ now (out .exit) ≡ channelWritten (planFrom mode (now (gains .entry)) count payload)
+    ensures { λ r. ⌜ now (out .exit) ≡ channelWritten (lentPlan mode (now (gains .entry)) count payload)
         (now (hebap .entry)) start end (now (x .entry)) (now (out .entry)) (bitOfPlace (now (byte .entry)) (now (bit .entry))) ⌝ }
-    ensures { λ r. ⌜ place (now (byte .exit)) (now (bit .exit)) ≡ writePlace (place (now (byte .entry)) (now (bit .entry))) (channelAt (planFrom mode (now (gains .entry)) count payload)
+    ensures { λ r. ⌜ place (now (byte .exit)) (now (bit .exit)) ≡ writePlace (place (now (byte .entry)) (now (bit .entry))) (channelAt (lentPlan mode (now (gains .entry)) count payload)
         (now (hebap .entry)) start end (now (x .entry)) (now (out .entry)) (now (byte .entry)) (now (bit .entry))) ⌝ }
 {
     let p = BitPos {

@@ -22,7 +22,7 @@ use Rattle.planner.proofs.Codes.{bin-scalar, bin-most}
 use Rattle.planner.proofs.Optimal.{cheapest-same, gains-step, gains-stay, gains-none, gains-length, first-least}
 use Rattle.promise3.specs.Promise.{Allowed}
 use Rattle.promise3.proofs.Plans.{given}
-use Rattle.promise3.specs.Ahtenc.{gainOfMapped, modeAllowed, hasGain, bitsOfBin, GainBits, gainLoop, noGainYet, AhtPlan, withBin, binLoop, gainBits, modePlan, modeLoop, ahtPlan, planFrom}
+use Rattle.promise3.specs.Ahtenc.{gainOfMapped, modeAllowed, hasGain, bitsOfBin, GainBits, gainLoop, noGainYet, AhtPlan, binStep, binLoop, gainBits, modePlan, modeLoop, ahtPlan, planFrom}
 
 -- ---- a bin
 bits-are : (h g : ℕ) (v : List Float) → bitsOfBin h g v ≡ codesBits h g v
@@ -104,20 +104,20 @@ module _ (mode : ℕ) (row : List ℕ) (x : List Float) where
     v = sixOf x e
 
     abbrev added : AhtPlan
-    added = withBin mode h v p
+    added = binStep mode h v p
 
     gains-kept : active mode h ≡ false → added .gains ≡ p .gains → map gainOfMapped (added .gains) ≡ cond (active mode h) (map gainOfMapped (p .gains) ++ (bestGain mode row x e ∷ [])) (map gainOfMapped (p .gains))
     gains-kept n g = rw n (ap (map gainOfMapped) g)
 
     none-adds : h ≡ 0 → Adds e p added
-    unfolding withBin leastAt binBits
+    unfolding binStep leastAt binBits
     none-adds z =
         let q = eq-eqb h 0 z in
         let g : added .gains ≡ p .gains = rw q in
         record { gains = gains-kept (low-inactive mode h (omega arith)) g; bits = rw q (omega arith) }
 
     book-adds : (h ≡ 0 → ⊥) → h ≤ 7 → Adds e p added
-    unfolding withBin leastAt binBits
+    unfolding binStep leastAt binBits
     book-adds n l =
         let q = ne-eqb h 0 n in
         let r = le-leb h 7 l in
@@ -125,7 +125,7 @@ module _ (mode : ℕ) (row : List ℕ) (x : List Float) where
         record { gains = gains-kept (low-inactive mode h l) g; bits = rw (q, r) }
 
     fixed-adds : 8 ≤ h → hasGain mode h ≡ false → Adds e p added
-    unfolding withBin leastAt
+    unfolding binStep leastAt
     fixed-adds l f =
         let q = ne-eqb h 0 (λ z. omega arith) in
         let r = lt-leb h 7 l in
@@ -136,7 +136,7 @@ module _ (mode : ℕ) (row : List ℕ) (x : List Float) where
         record { gains = gains-kept a g; bits = b ∙ ap (λ (k : ℕ). p .bits + k) (cost-is e 1 l ∙ sym c) }
 
     gain-adds : 8 ≤ h → hasGain mode h ≡ true → Adds e p added
-    unfolding withBin leastAt bestGain
+    unfolding binStep leastAt bestGain
     gain-adds l f =
         let q = ne-eqb h 0 (λ z. omega arith) in
         let r = lt-leb h 7 l in
@@ -189,7 +189,7 @@ module _ (mode : ℕ) (row : List ℕ) (x : List Float) where
     looped (suc e) = go (leb start e) refl (looped e)
       where
         go : (t : Bool) → leb start e ≡ t → Looped e (binLoop mode row x start e)
-            → Looped (suc e) (cond t (withBin mode (hebap e) (sixOf x e) (binLoop mode row x start e)) (record { gaqmod = mode; gains = []; bits = 0 }))
+            → Looped (suc e) (cond t (binStep mode (hebap e) (sixOf x e) (binLoop mode row x start e)) (record { gaqmod = mode; gains = []; bits = 0 }))
         go true l f = looped-next e (binLoop mode row x start e) _ (leb-true start e l) f (adds e (binLoop mode row x start e))
         go false l f = looped-none (suc e) (leb-false start e l)
 

@@ -60,8 +60,8 @@ pub record AhtPlan : Type 0 where
   pub bits : ℕ
 
 -- the loop over the bins: a bin of hebap h with the vector v
-unfoldable pub withBin : ℕ → ℕ → List Float → AhtPlan → AhtPlan
-withBin mode h v p =
+unfoldable pub binStep : ℕ → ℕ → List Float → AhtPlan → AhtPlan
+binStep mode h v p =
     let b = gainLoop (λ g. bitsOfBin h g v) (modeAllowed mode) noGainYet in
     cond (eqb h 0) p
     (cond (leb h 7) (record { gaqmod = mode; gains = p .gains; bits = p .bits + vqBits h })
@@ -71,7 +71,7 @@ withBin mode h v p =
 unfoldable pub binLoop : ℕ → List ℕ → List Float → ℕ → ℕ → AhtPlan
 binLoop mode row x start zero = record { gaqmod = mode; gains = []; bits = 0 }
 binLoop mode row x start (suc e) =
-    cond (leb start e) (withBin mode (getD row e 0) (sixOf x e) (binLoop mode row x start e)) (record { gaqmod = mode; gains = []; bits = 0 })
+    cond (leb start e) (binStep mode (getD row e 0) (sixOf x e) (binLoop mode row x start e)) (record { gaqmod = mode; gains = []; bits = 0 })
 
 -- gain_bits
 abbrev pub gainBits : ℕ → ℕ → ℕ

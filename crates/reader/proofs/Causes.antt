@@ -39,6 +39,18 @@ module _ (row : List ℕ) (start end : ℕ) (c : Call) where
     unfolding found
     found-field h = rw (none, le-leb (c .at) (8 * length (c .src)) h)
 
+  -- it refuses with a cause, or none of causes 1 to 4 holds and the position is inside
+  by-cause : {A : Type 0} → ((k : ℕ) → (k ≡ 0 → ⊥) → found row start end c ≡ refused k → A) → (readCause row start end c ≡ 0 → c .at ≤ 8 * length (c .src) → A) → A
+  by-cause {A = A} refuses looks = cause (readCause row start end c) refl
+    where
+      past : readCause row start end c ≡ 0 → (t : Bool) → leb (c .at) (8 * length (c .src)) ≡ t → A
+      past n true q = looks n (leb-true (c .at) (8 * length (c .src)) q)
+      past n false q = refuses 8 (λ (z : 8 ≡ 0). omega arith) (found-past n (leb-false (c .at) (8 * length (c .src)) q))
+
+      cause : (k : ℕ) → readCause row start end c ≡ k → A
+      cause zero q = past q (leb (c .at) (8 * length (c .src))) refl
+      cause (suc k) q = let some : suc k ≡ 0 → ⊥ = λ n. omega arith in refuses (suc k) some (found-cause (suc k) (sym q) some)
+
   -- where it finds a channel, none of the causes holds
   pub record FoundAt (d : Channel) (rest : List Bool) : Type 0 where
     pub row-is : RowOk row start end
@@ -47,39 +59,16 @@ module _ (row : List ℕ) (start end : ℕ) (c : Call) where
     pub is : field row start end .dec (drop (c .at) (bitsOf (c .src))) ≡ got d rest
 
   pub found-got : (d : Channel) (rest : List Bool) → found row start end c ≡ got d rest → FoundAt d rest
-  found-got d rest h = cause (readCause row start end c) refl
-    where
-      no : {A : Type 0} (k : ℕ) → found row start end c ≡ refused k → A
-      no k g = absurd (let z : _≡_ {A = ℕ} 0 1 = cc in omega arith)
-
-      past : readCause row start end c ≡ 0 → (t : Bool) → leb (c .at) (8 * length (c .src)) ≡ t → FoundAt d rest
-      past n true q =
-          let i = leb-true (c .at) (8 * length (c .src)) q in
-          let r = read-none n in
-          record { row-is = r .0; long = r .1; inside = i; is = sym (found-field n i) ∙ h }
-      past n false q = no 8 (found-past n (leb-false (c .at) (8 * length (c .src)) q))
-
-      cause : (k : ℕ) → readCause row start end c ≡ k → FoundAt d rest
-      cause zero q = past q (leb (c .at) (8 * length (c .src))) refl
-      cause (suc k) q = no (suc k) (found-cause (suc k) (sym q) (λ (n : suc k ≡ 0). omega arith))
+  found-got d rest h =
+      by-cause (λ k n g. absurd (let z : _≡_ {A = ℕ} 0 1 = cc in omega arith))
+      (λ n i. let r = read-none n in record { row-is = r .0; long = r .1; inside = i; is = sym (found-field n i) ∙ h })
 
   -- what it accepts ends inside the bytes
+  used : (n : ℕ) (t : Got Channel) → readAnswer n t .bits ≤ n
+  used n (got d rest) = omega arith
+  used n (refused k) = omega arith
+
   pub read-inside : answerTo row start end c .refusal ≡ 0 → c .at + answerTo row start end c .bits ≤ 8 * length (c .src)
-  read-inside h = cause (readCause row start end c) refl
-    where
-      no : {A : Type 0} (k : ℕ) → (k ≡ 0 → ⊥) → found row start end c ≡ refused k → A
-      no k n g = absurd (n (sym (ap (λ (t : Got Channel). readAnswer (8 * length (c .src) - c .at) t .refusal) g) ∙ h))
-
-      used : (n : ℕ) (t : Got Channel) → readAnswer n t .bits ≤ n
-      used n (got d rest) = omega arith
-      used n (refused k) = omega arith
-
-      past : readCause row start end c ≡ 0 → (t : Bool) → leb (c .at) (8 * length (c .src)) ≡ t → c .at + answerTo row start end c .bits ≤ 8 * length (c .src)
-      past n true q =
-          let i = leb-true (c .at) (8 * length (c .src)) q in
-          let u = used (8 * length (c .src) - c .at) (found row start end c) in omega arith
-      past n false q = no 8 (λ (z : 8 ≡ 0). omega arith) (found-past n (leb-false (c .at) (8 * length (c .src)) q))
-
-      cause : (k : ℕ) → readCause row start end c ≡ k → c .at + answerTo row start end c .bits ≤ 8 * length (c .src)
-      cause zero q = past q (leb (c .at) (8 * length (c .src))) refl
-      cause (suc k) q = no (suc k) (λ (n : suc k ≡ 0). omega arith) (found-cause (suc k) (sym q) (λ (n : suc k ≡ 0). omega arith))
+  read-inside h =
+      by-cause (λ k n g. absurd (n (sym (ap (λ (t : Got Channel). readAnswer (8 * length (c .src) - c .at) t .refusal) g) ∙ h)))
+      (λ n i. let u = used (8 * length (c .src) - c .at) (found row start end c) in omega arith)

@@ -74,15 +74,10 @@ fn vectors(r: &Record) -> [f32; 48] {
 
 // The gains that a record holds are 32; all others are 0.
 fn same_gains(r: &Record, gains: &[u8; 256]) -> bool {
-    let mut i: usize = 0;
-    while i < 256 {
-        let wanted = if i < 32 { r[GAINS + i] } else { 0 };
-        if gains[i] != wanted {
-            return false;
-        }
-        i += 1;
-    }
-    true
+    let zeros = channel::no_gains();
+    let given = &gains[..];
+    check::same(&given[0..32], records::part(r, GAINS, 32))
+        && check::same(&given[32..256], &zeros[32..256])
 }
 
 // ---- plan_aht_channel
@@ -127,21 +122,6 @@ fn plan_of(r: &Record, gains: [u8; 256]) -> Plan {
     }
 }
 
-// The bytes before the call.
-fn bytes(r: &Record) -> [u8; 128] {
-    let mut out = [0u8; 128];
-    let mut i: usize = 0;
-    while i < 128 {
-        out[i] = r[BYTES + i];
-        i += 1;
-    }
-    out
-}
-
-fn same_bytes(r: &Record, out: &[u8; 128]) -> bool {
-    check::same(out, records::part(r, BYTES_AFTER, 128))
-}
-
 fn same_write(r: &Record, answer: ChannelWrite) -> bool {
     match answer {
         ChannelWrite::Done(q) => records::same_value(r, 0, 0) && records::same_place(r, q),
@@ -149,45 +129,48 @@ fn same_write(r: &Record, answer: ChannelWrite) -> bool {
     }
 }
 
-fn replay_write(r: &Record, plan: Plan, x: [f32; 48], before: [u8; 128]) -> bool {
-    let mut out = before;
+// Whether the bytes, in a copy of the record, are what the record has after the call.
+fn same_bytes(r: &Record, out: &Record) -> bool {
+    check::same(
+        records::part(out, BYTES, 128),
+        records::part(r, BYTES_AFTER, 128),
+    )
+}
+
+// The call writes to the bytes in a copy of the record.
+fn replay_write(r: &Record, plan: Plan, x: [f32; 48]) -> bool {
+    let mut out = *r;
     let n = size(r[VECTORS_LEN], 48);
-    let len = size(r[BYTES_LEN], 128);
+    let end_of_bytes = BYTES + size(r[BYTES_LEN], 128);
     let start = records::number64(r, START) as usize;
     let end = records::number64(r, END) as usize;
     let p = records::position(r);
-    let answer = writer::write_aht_channel(plan, row(r), start, end, &x[0..n], &mut out[0..len], p);
+    let answer = writer::write_aht_channel(
+        plan,
+        row(r),
+        start,
+        end,
+        &x[0..n],
+        &mut out[BYTES..end_of_bytes],
+        p,
+    );
     same_bytes(r, &out) && same_write(r, answer)
 }
 
 // ---- read_aht_channel
 
-fn same_values(r: &Record, values: &[f32; 48]) -> bool {
+// Six values, six exact values and an index for each of eight bins.
+fn same_outputs(r: &Record, values: &[f32; 48], exact: &[i32; 48], indices: &[u16; 8]) -> bool {
     let mut i: usize = 0;
     while i < 48 {
+        let bin = i / 6;
         if !records::same_float(r, VALUES + 4 * i, values[i]) {
             return false;
         }
-        i += 1;
-    }
-    true
-}
-
-fn same_exact(r: &Record, exact: &[i32; 48]) -> bool {
-    let mut i: usize = 0;
-    while i < 48 {
         if exact[i] != records::signed32(records::number32(r, EXACT + 4 * i)) {
             return false;
         }
-        i += 1;
-    }
-    true
-}
-
-fn same_indices(r: &Record, indices: &[u16; 8]) -> bool {
-    let mut i: usize = 0;
-    while i < 8 {
-        if records::number16(r, INDICES + 2 * i) as u16 != indices[i] {
+        if indices[bin] != records::number16(r, INDICES + 2 * bin) as u16 {
             return false;
         }
         i += 1;
@@ -226,10 +209,7 @@ fn replay_read(r: &Record) -> bool {
         &mut exact[0..b],
         &mut indices[0..c],
     );
-    same_values(r, &values)
-        && same_exact(r, &exact)
-        && same_indices(r, &indices)
-        && same_shown(r, answer)
+    same_outputs(r, &values, &exact, &indices) && same_shown(r, answer)
 }
 
 // Whether the call of the record gives the record's answer.
@@ -237,7 +217,7 @@ fn right(r: &Record) -> bool {
     let function = r[0];
     match function {
         14 => replay_plan(r, plan(r, vectors(r))),
-        15 => replay_write(r, plan_of(r, gains_of(r)), vectors(r), bytes(r)),
+        15 => replay_write(r, plan_of(r, gains_of(r)), vectors(r)),
         16 => replay_read(r),
         _ => false,
     }
