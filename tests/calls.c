@@ -109,8 +109,11 @@ static void books(void)
         EXPECT(fathrugg_vq_lookup(hebap, sizes[hebap] - 1, v) == FATHRUGG_OK);
         EXPECT(fathrugg_vq_search(hebap, v, &index) == FATHRUGG_OK && index == sizes[hebap] - 1);
         EXPECT(fathrugg_vq_lookup(hebap, 2 * sizes[hebap] - 1, again) == FATHRUGG_OK && memcmp(v, again, sizeof v) == 0);
-        v[5] = 1025.0f;
+        /* 16384 is the largest size */
+        v[5] = 0x1.000002p14f;
         EXPECT(fathrugg_vq_search(hebap, v, &index) == FATHRUGG_COMPONENT && index == sizes[hebap] - 1);
+        v[5] = -0x1p14f;
+        EXPECT(fathrugg_vq_search(hebap, v, &index) == FATHRUGG_OK && index < sizes[hebap]);
     }
 }
 
@@ -122,8 +125,12 @@ static void quantiser(void)
     /* hebap 8 at Gk 2: 2 bits a small code, steps of 1/4; 0.25 is the level 1 */
     EXPECT(fathrugg_quantise_scalar(8, 2, 0.25f, &large, &code, &value) == FATHRUGG_OK && large == 0 && code == 1 && value == 0.25f);
     EXPECT(fathrugg_quantise_scalar(17, 2, 0.25f, &large, &code, &value) == FATHRUGG_NO_QUANTISER);
-    EXPECT(fathrugg_quantise_scalar(8, 2, 1025.0f, &large, &code, &value) == FATHRUGG_COMPONENT);
+    EXPECT(fathrugg_quantise_scalar(8, 2, 0x1.000002p14f, &large, &code, &value) == FATHRUGG_COMPONENT);
+    EXPECT(fathrugg_quantise_scalar(8, 2, -0x1.000002p14f, &large, &code, &value) == FATHRUGG_COMPONENT);
     EXPECT(large == 0 && code == 1 && value == 0.25f);
+    /* the largest sizes take the end codes, of 2 bits here: the levels 1 and -2 */
+    EXPECT(fathrugg_quantise_scalar(8, 2, 0x1p14f, &large, &code, &value) == FATHRUGG_OK && large == 1 && code == 1);
+    EXPECT(fathrugg_quantise_scalar(8, 2, -0x1p14f, &large, &code, &value) == FATHRUGG_OK && large == 1 && code == 2);
 
     const float x[6] = {0.25f, 0.0f, -0.25f, 0.0f, 0.0f, 0.0f};
     float values[6];
@@ -169,10 +176,14 @@ static void channel(void)
     EXPECT(fathrugg_plan_aht_channel(hebap, 2, 0, 257, x, 12, &mode, gk, &count, &payload) == FATHRUGG_END_ABOVE_256);
     EXPECT(fathrugg_plan_aht_channel(hebap, 2, 0, 2, x, 11, &mode, gk, &count, &payload) == FATHRUGG_TOO_SHORT);
     const uint8_t unknown[2] = {20, 0};
-    const float loud[12] = {1025.0f};
+    const float loud[12] = {0x1p14f}, louder[12] = {0x1.000002p14f};
     EXPECT(fathrugg_plan_aht_channel(unknown, 2, 0, 2, x, 12, &mode, gk, &count, &payload) == FATHRUGG_HEBAP_ABOVE_19);
-    EXPECT(fathrugg_plan_aht_channel(hebap, 2, 0, 2, loud, 12, &mode, gk, &count, &payload) == FATHRUGG_COMPONENT);
+    EXPECT(fathrugg_plan_aht_channel(hebap, 2, 0, 2, louder, 12, &mode, gk, &count, &payload) == FATHRUGG_COMPONENT);
     EXPECT(mode == 1 && count == 1 && gk[0] == 2 && payload == 13 && length == 15);
+    /* six codes of 3 bits are 18 at Gk 1; at Gk 2 one of 4 and five of 2 with the gain's bit 15; at Gk 4 one of 4 and
+       five of 1 with it 10 */
+    EXPECT(fathrugg_plan_aht_channel(hebap, 2, 0, 2, loud, 12, &mode, gk, &count, &payload) == FATHRUGG_OK);
+    EXPECT(mode == 2 && count == 1 && gk[0] == 4 && payload == 10);
 }
 
 /* The components of bins of hebap 0 are never looked at: here they are never set, which valgrind tells if they are.

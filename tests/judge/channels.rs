@@ -3,7 +3,7 @@ use crate::eac3::{aht, ahtenc};
 use crate::ours;
 use crate::random::Random;
 use crate::shown::{self, Shown};
-use crate::signals::{bin_of, cause, channel, fitting, nudged, some_plan, unit, vectors, with_field};
+use crate::signals::{bin_of, cause, channel, fitting, louder, nudged, some_plan, unit, vectors, with_field, EARLIER, LARGEST};
 use crate::Tally;
 use oxideav_core::bits::BitWriter;
 
@@ -98,6 +98,7 @@ fn written(random: &mut Random, all: &mut Tally) {
         let mut out = before.clone();
         let mut next = ours::Pos::of(at);
         let refusal = ours::write_aht_channel(&plan_of(random, &rust), &row, start, end, &x, &mut out, &mut next);
+        w.loud((start..end).any(|k| row[k] != 0 && x[6 * k..6 * k + 6].iter().any(|&v| louder(v))));
         w.case(0, refusal == 0 && n == total && out == want && next == ours::Pos::of(at + total), || {
             format!("{row:?} {start} {end} {x:?} {rust:?} at {at}: {refusal} {out:?} {next:?}, not {want:?}")
         });
@@ -155,7 +156,7 @@ fn refused(random: &mut Random, all: &mut Tally) {
                 }
                 7 if !x.is_empty() => {
                     let k = random.below(x.len());
-                    x[k] = random.pick(&[f32::NAN, f32::INFINITY, nudged(1024.0, 1), -1e30]);
+                    x[k] = random.pick(&[f32::NAN, f32::INFINITY, nudged(LARGEST, 1), -nudged(LARGEST, 1), nudged(EARLIER, 1), -LARGEST, -1e30]);
                 }
                 8 => x.truncate(random.below(x.len() + 1)),
                 9 => row.truncate(random.below(row.len() + 1)),

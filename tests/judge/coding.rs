@@ -2,7 +2,7 @@
 use crate::eac3::{aht, ahtenc};
 use crate::ours;
 use crate::random::Random;
-use crate::signals::{aimed, allowed, bin_of, book_size, cause, channel, code_of, component, kept, nudged, outside, vectors};
+use crate::signals::{aimed, allowed, bin_of, book_size, cause, channel, code_of, component, edges, kept, loud, loud_tie, louder, nudged, outside, vectors, LARGEST};
 use crate::Tally;
 
 pub fn run(seed: u64, all: &mut Tally) {
@@ -32,13 +32,14 @@ fn vq_search(random: &mut Random, all: &mut Tally) {
         let mut index = 99_999;
         let refusal = ours::vq_search(hebap, x, &mut index);
         let want = if book_size(hebap) > 0 && x.iter().any(|&v| outside(v)) { (5, 99_999) } else { (0, ahtenc::vq_search(hebap, x)) };
+        t.loud(want.0 == 0 && book_size(hebap) > 0 && x.iter().any(|&v| louder(v)));
         t.case(want.0, (refusal, index) == want, || format!("{hebap} {x:?}: {refusal} {index}, not {want:?}"));
     };
     // a near tie and an exact one
     one(1, &[-3582.0, -5096.0, -3448.0, 4629.0, -3975.0, -1091.0].map(|v: f32| v / 32768.0));
     one(1, &[-2535.0, 1492.0, -3722.0, -7072.0, -2163.0, -884.0].map(|v: f32| v / 32768.0));
     for hebap in 0..=255u8 {
-        for bad in [f32::NAN, f32::INFINITY, f32::NEG_INFINITY, nudged(1024.0, 1), -nudged(1024.0, 1), 1024.0, -1024.0] {
+        for bad in NO_NUMBERS.map(f32::from_bits).into_iter().chain(edges()) {
             for j in 0..6 {
                 let mut x = [0.25f32; 6];
                 x[j] = bad;
@@ -58,8 +59,34 @@ fn vq_search(random: &mut Random, all: &mut Tally) {
         };
         one(hebap, &x);
     }
+    // loud vectors, each component or some, and those with two vectors of a book as far
+    let mut ties = 0;
+    for _ in 0..crate::times(40_000, 400_000) {
+        let hebap = 1 + random.below(7) as u8;
+        let x: [f32; 6] = match random.below(4) {
+            0 => core::array::from_fn(|_| loud(random)),
+            1 => core::array::from_fn(|_| if random.below(2) == 0 { random.pick(&[LARGEST, -LARGEST]) } else { component(random) }),
+            _ => loud_tie(random, hebap),
+        };
+        ties += usize::from(tied(hebap, &x));
+        one(hebap, &x);
+    }
+    println!("compare: of these {ties} loud vectors are as far from a later one of the book as from the one found");
+    assert!(ties > crate::times(5_000, 50_000), "ties are met");
     t.close(all);
 }
+
+/// Another vector of the book is as far as the one that the Rust finds.
+fn tied(hebap: u8, x: &[f32; 6]) -> bool {
+    let far = |i: usize| aht::vq_lookup(hebap, i).iter().zip(x).fold(0f32, |d, (v, x)| d + (x - v) * (x - v));
+    let found = ahtenc::vq_search(hebap, x);
+    let least = far(found);
+    assert!(least.is_finite(), "no distance is infinite");
+    (found + 1..book_size(hebap)).any(|i| far(i) == least)
+}
+
+/// NaNs of each kind and sign, and the infinities.
+const NO_NUMBERS: [u32; 8] = [0x7fc0_0000, 0xffc0_0000, 0x7fff_ffff, 0x7f80_0001, 0xff80_0001, 0x7fa0_0000, 0x7f80_0000, 0xff80_0000];
 
 fn quantise_scalar(random: &mut Random, all: &mut Tally) {
     let mut t = Tally::of("quantise_scalar");
@@ -74,6 +101,7 @@ fn quantise_scalar(random: &mut Random, all: &mut Tally) {
             let (large, code, _, y) = code_of(hebap, gk, x);
             (0, large, code, y)
         };
+        t.loud(want.0 == 0 && louder(x));
         t.case(want.0, (refusal, large, code, value.to_bits()) == (want.0, want.1, want.2, want.3.to_bits()), || {
             format!("{hebap} {gk} {x:e} ({:#x}): {refusal} {large} {code} {value}, not {want:?}", x.to_bits())
         });
@@ -86,7 +114,7 @@ fn quantise_scalar(random: &mut Random, all: &mut Tally) {
     }
     for hebap in 8..=19 {
         for gk in [1, 2, 4] {
-            for x in [0.0, -0.0, 1024.0, -1024.0, nudged(1024.0, 1), nudged(-1024.0, -1), f32::INFINITY, f32::NEG_INFINITY, f32::MIN_POSITIVE, f32::from_bits(1)] {
+            for x in [0.0, -0.0, f32::MIN_POSITIVE, f32::from_bits(1)].into_iter().chain(NO_NUMBERS.map(f32::from_bits)).chain(edges()) {
                 one(hebap, gk, x);
             }
             if !allowed(hebap, gk) {
@@ -98,9 +126,21 @@ fn quantise_scalar(random: &mut Random, all: &mut Tally) {
                 let x = aimed(random, hebap, gk);
                 one(hebap, gk, x);
             }
+            for i in 0..crate::times(5_000, 50_000) {
+                let x = if i == 0 { 1.25 } else { loud(random) };
+                assert_eq!(code_of(hebap, gk, x).1, end_code(hebap, gk, x), "{hebap} {gk} {x}: the end code");
+                one(hebap, gk, x);
+            }
         }
     }
     t.close(all);
+}
+
+/// The code of the highest or the lowest level; -2^(m-1) is not picked at Gk 1.
+fn end_code(hebap: u8, gk: u8, x: f32) -> u32 {
+    let m = u32::from(aht::HEBAP_MANT_BITS[hebap as usize]);
+    let half = 1 << (if gk == 2 { m - 2 } else { m - 1 });
+    if x > 0.0 { half - 1 } else { half + u32::from(gk == 1) }
 }
 
 fn quantise_bin(random: &mut Random, all: &mut Tally) {
@@ -108,9 +148,14 @@ fn quantise_bin(random: &mut Random, all: &mut Tally) {
     for _ in 0..crate::times(100_000, 1_000_000) {
         let hebap = 7 + random.below(14) as u8;
         let gk = random.pick(&[1u8, 2, 4, 4, 2, 3]);
-        let mut x: [f32; 6] = core::array::from_fn(|_| if allowed(hebap, gk) && random.below(2) == 0 { aimed(random, hebap, gk) } else { component(random) });
-        if random.below(20) == 0 {
-            x[random.below(6)] = random.pick(&[f32::NAN, 1025.0, -2000.0, f32::INFINITY]);
+        let all_loud = random.below(8) == 0;
+        let mut x: [f32; 6] = core::array::from_fn(|_| match random.below(2) {
+            _ if all_loud => loud(random),
+            0 if allowed(hebap, gk) => aimed(random, hebap, gk),
+            _ => component(random),
+        });
+        if random.below(10) == 0 {
+            x[random.below(6)] = if random.below(3) == 0 { f32::from_bits(random.pick(&NO_NUMBERS)) } else { random.pick(&edges()) };
         }
         let (mut values, mut bits, mut err) = (kept(), 4711u32, kept()[1]);
         let refusal = ours::quantise_bin(hebap, gk, &x, &mut values, &mut bits, &mut err);
@@ -122,6 +167,7 @@ fn quantise_bin(random: &mut Random, all: &mut Tally) {
             let (n, e, ys) = bin_of(hebap, gk, &x);
             (0, ys, n, e)
         };
+        t.loud(want.0 == 0 && x.iter().any(|&v| louder(v)));
         let same = refusal == want.0 && values.map(f32::to_bits) == want.1.map(f32::to_bits) && bits == want.2 && err.to_bits() == want.3.to_bits();
         t.case(want.0, same, || format!("{hebap} {gk} {x:?}: {refusal} {values:?} {bits} {err}, not {want:?}"));
     }
@@ -152,7 +198,7 @@ fn plan(random: &mut Random, all: &mut Tally) {
                 }
                 1 if !x.is_empty() => {
                     let k = random.below(x.len());
-                    x[k] = random.pick(&[f32::NAN, f32::INFINITY, nudged(1024.0, 1), -1e30, 1024.0]);
+                    x[k] = if random.below(2) == 0 { f32::from_bits(random.pick(&NO_NUMBERS)) } else { random.pick(&edges()) };
                 }
                 2 => x.truncate(random.below(x.len() + 1)),
                 3 => row.truncate(random.below(row.len() + 1)),
@@ -181,6 +227,7 @@ fn plan(random: &mut Random, all: &mut Tally) {
             }
         }
         let t = if number == 0 { &mut plans } else { &mut refusals };
+        t.loud(number == 0 && (start..end).any(|k| row[k] != 0 && x[6 * k..6 * k + 6].iter().any(|&v| louder(v))));
         t.case(number, refusal == number && ours_plan == want, || format!("{row:?} {start} {end} {x:?}: {refusal} {ours_plan:?}, not {number} {want:?}"));
     }
     plans.close(all);

@@ -96,8 +96,14 @@ fn main() {
     }
     let known = |&(call, n): &(&str, u8)| MET.iter().any(|(c, refusals)| *c == call && refusals.contains(&n));
     let unknown: Vec<_> = all.met.keys().filter(|k| !known(k)).collect();
+    let mut few = 0;
+    for call in ["vq_search", "quantise_scalar", "quantise_bin", "plan_aht_channel", "write_aht_channel"] {
+        let n = all.louder.get(call).copied().unwrap_or(0);
+        println!("compare: {call:<28} {n} answers with a component above 1024");
+        few += usize::from(n < times(10_000, 10_000) as u64);
+    }
     println!("compare: {missing} refusals of a call were not met, {} are on no list {unknown:?}", unknown.len());
-    if all.different > 0 || missing > 0 || !unknown.is_empty() {
+    if all.different > 0 || missing > 0 || few > 0 || !unknown.is_empty() {
         std::process::exit(1);
     }
 }
@@ -111,6 +117,8 @@ pub struct Tally {
     pub different: u64,
     /// How often a call was due to answer a number.
     pub met: std::collections::HashMap<(&'static str, u8), u64>,
+    /// How often it was due to answer where a component is above 1024, which it refused once.
+    pub louder: std::collections::HashMap<&'static str, u64>,
 }
 
 impl Tally {
@@ -130,12 +138,19 @@ impl Tally {
         }
     }
 
+    pub fn loud(&mut self, is: bool) {
+        *self.louder.entry(self.name.split(',').next().unwrap()).or_default() += u64::from(is);
+    }
+
     pub fn close(self, all: &mut Tally) {
         println!("compare: {:<40} {:>10} cases, {} different", self.name, self.cases, self.different);
         all.cases += self.cases;
         all.different += self.different;
         for (k, n) in self.met {
             *all.met.entry(k).or_default() += n;
+        }
+        for (k, n) in self.louder {
+            *all.louder.entry(k).or_default() += n;
         }
     }
 }

@@ -13,7 +13,7 @@
 use crate::eac3::{aht, ahtenc};
 use crate::random::Random;
 use crate::record_channels;
-use crate::signals::{aimed, allowed, bin_of, book_size, code_of, component, nudged, outside};
+use crate::signals::{aimed, allowed, bin_of, book_size, code_of, component, edges, loud, loud_tie, nudged, outside, EARLIER, LARGEST};
 use oxideav_core::bits::{BitReader, BitWriter};
 
 /// What a record is aimed at, at its place 127; tests/reach has their names, and wants each of them.
@@ -55,10 +55,14 @@ pub mod aim {
     pub const SHORT_INDICES: u8 = 21;
     /// An output, or an input, of which just the last bit is missing.
     pub const BIT_SHORT: u8 = 22;
-    /// 1024 in size, and the next f32 above.
+    /// 1024 or 16384 in size, or the next f32 above or below.
     pub const LIMIT: u8 = 23;
     /// Half way between two codes, or nearly; where a code stops being small.
     pub const HALF: u8 = 24;
+    /// Components from 1.25 to 16384 in size, one above 1024 or more.
+    pub const LOUD: u8 = 25;
+    /// Two vectors of a book equally far from one of 16384, where an ulp is 1/512.
+    pub const LOUD_TIE: u8 = 26;
 }
 
 /// Positions that no buffer reaches; 2^61 bytes are 2^64 bits, which would wrap to 0.
@@ -281,7 +285,14 @@ fn special(f: u8, random: &mut Random) -> Vec<Record> {
                     out.push(if book_size(hebap) > 0 { r.answer(5, 0, 0) } else { r.answer(0, ahtenc::vq_search(hebap, &x), 0) }.aim(aim::NO_NUMBER));
                 }
             }
-            for (j, x) in limits().into_iter().enumerate() {
+            for hebap in 1..=7 {
+                for x in loudly_tied(hebap, random) {
+                    out.push(Record::new(f).args(&[hebap]).vectors(&x).answer(0, ahtenc::vq_search(hebap, &x), 0).aim(aim::LOUD_TIE));
+                    let x = six_loud(random);
+                    out.push(Record::new(f).args(&[hebap]).vectors(&x).answer(0, ahtenc::vq_search(hebap, &x), 0).aim(aim::LOUD));
+                }
+            }
+            for (j, x) in edges().into_iter().enumerate() {
                 let hebap = 1 + (j % 7) as u8;
                 let mut v = [0.1f32; 6];
                 v[j % 6] = x;
@@ -332,8 +343,12 @@ fn special(f: u8, random: &mut Random) -> Vec<Record> {
                     out.push(r.aim(aim::NO_NUMBER));
                 }
             }
-            for (j, x) in limits().into_iter().enumerate() {
+            for (j, x) in edges().into_iter().enumerate() {
                 out.push(each(x, 8 + (j % 9) as u8, [1, 2, 4][j % 3], j).aim(aim::LIMIT));
+            }
+            for (hebap, gk) in (8..=19).flat_map(|h| [1, 2, 4].map(|g| (h, g))).filter(|&(h, g)| allowed(h, g)) {
+                let six = six_loud(random);
+                out.push(if f == 12 { quantised(f, hebap, gk, six[0]) } else { quantised_bin(f, hebap, gk, six) }.aim(aim::LOUD));
             }
         }
         _ => {}
@@ -341,9 +356,26 @@ fn special(f: u8, random: &mut Random) -> Vec<Record> {
     out
 }
 
-/// The ends of the domain and their neighbours.
-pub fn limits() -> [f32; 6] {
-    [1024.0, -1024.0, nudged(1024.0, 1), -nudged(1024.0, 1), nudged(1024.0, -1), -nudged(1024.0, -1)]
+/// Six loud components, the first above 1024.
+pub fn six_loud(random: &mut Random) -> [f32; 6] {
+    let mut x = core::array::from_fn(|_| loud(random));
+    while x[0].abs() <= EARLIER {
+        x[0] = loud(random);
+    }
+    x
+}
+
+/// Two vectors with a component of 16384 for which the last of equals is another than the first.
+fn loudly_tied(hebap: u8, random: &mut Random) -> Vec<[f32; 6]> {
+    let book: Vec<[f32; 6]> = (0..book_size(hebap)).map(|i| aht::vq_lookup(hebap, i)).collect();
+    let mut out = Vec::new();
+    while out.len() < 2 {
+        let x = loud_tie(random, hebap);
+        if last(&book, &x) != ahtenc::vq_search(hebap, &x) {
+            out.push(x);
+        }
+    }
+    out
 }
 
 /// Searches that are nearly the Rust's: the last two components added in the other order, all of them backwards, in
@@ -651,7 +683,7 @@ fn gain_of(i: usize) -> (u8, u8) {
 fn six(random: &mut Random, i: usize, mut one: impl FnMut(&mut Random) -> f32) -> [f32; 6] {
     let mut x = core::array::from_fn(|_| one(random));
     if i % 11 == 5 {
-        x[i % 6] = random.pick(&[f32::INFINITY, f32::NEG_INFINITY, 1024.0001, -4096.0, 1024.0]);
+        x[i % 6] = random.pick(&[f32::INFINITY, f32::NEG_INFINITY, nudged(LARGEST, 1), -65536.0, LARGEST, -4096.0]);
     }
     x
 }

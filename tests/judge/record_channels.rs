@@ -10,9 +10,9 @@
 //! and again. Values, exact values and indices are bytes 0x42 before the call. A refused plan or read is zeros.
 use crate::eac3::{aht, ahtenc};
 use crate::random::Random;
-use crate::record::{aim, limits, Records, FAR, NO_NUMBERS};
+use crate::record::{aim, six_loud, Records, FAR, NO_NUMBERS};
 use crate::shown;
-use crate::signals::{bin_of, cause, channel, fitting, outside, some_plan, unit, vectors, with_field};
+use crate::signals::{bin_of, cause, channel, edges, fitting, outside, some_plan, unit, vectors, with_field};
 use oxideav_core::bits::{BitReader, BitWriter};
 
 const PLAN: u8 = 14;
@@ -437,13 +437,21 @@ fn special(f: u8, random: &mut Random, out: &mut Vec<Record>) {
         out.push(call.record(f).with(0).aim(at));
     }
     if f != READ {
-        for (j, x) in limits().into_iter().chain(NO_NUMBERS).enumerate() {
+        for (j, x) in edges().into_iter().chain(NO_NUMBERS).enumerate() {
             let mut call = Call::plain(random);
             call.x[6 + j] = x;
-            let plan = if x.abs() <= 1024.0 { Some(ahtenc::plan_aht_channel(&call.row, 1, 5, &vectors(&call.x))) } else { None };
+            let plan = if !outside(x) { Some(ahtenc::plan_aht_channel(&call.row, 1, 5, &vectors(&call.x))) } else { None };
             let call = plan.map_or_else(|| call.clone(), |p| Call::of(call.row.clone(), call.x.clone(), 1, 5, &p, 3, random));
-            let at = if j < 6 { aim::LIMIT } else { aim::NO_NUMBER };
-            out.push(call.record(f).with(if x.abs() <= 1024.0 { 0 } else { 5 }).aim(at));
+            let at = if j < edges().len() { aim::LIMIT } else { aim::NO_NUMBER };
+            out.push(call.record(f).with(if outside(x) { 5 } else { 0 }).aim(at));
+        }
+        // loud bins of every kind
+        for k in 0..18 {
+            let bins = 1 + k % 6;
+            let row: Vec<u8> = (0..bins).map(|i| 1 + ((7 * k + i) % 19) as u8).collect();
+            let x: Vec<f32> = row.iter().flat_map(|_| six_loud(random)).collect();
+            let plan = some_plan(random, &row, 0, bins, &x);
+            out.push(Call::of(row, x, 0, bins, &plan, k, random).record(f).with(0).aim(aim::LOUD));
         }
         // components of hebap 0 are not looked at
         for bad in NO_NUMBERS {
@@ -613,7 +621,7 @@ fn drawn(f: u8, i: usize, random: &mut Random) -> Record {
         1 => call.start = random.below(bins + 2),
         2 => call.end = random.pick(&[256, 257, usize::MAX]),
         3 if bins > 0 => call.row[random.below(bins)] = 20 + random.below(236) as u8,
-        4 if bins > 0 => call.x[random.below(6 * bins)] = random.pick(&[f32::INFINITY, -1025.0, 1024.0, f32::NAN]),
+        4 if bins > 0 => call.x[random.below(6 * bins)] = random.pick(&[f32::INFINITY, -16385.0, 16384.0, f32::NAN]),
         5 => call.x.truncate(random.below(6 * bins + 1)),
         6 => call.row.truncate(random.below(bins + 1)),
         7 => call.bytes.truncate(random.below(call.bytes.len() + 1)),

@@ -7,9 +7,26 @@ pub fn book_size(hebap: u8) -> usize {
     if (1..=7).contains(&hebap) { 1 << aht::VQ_BITS[hebap as usize] } else { 0 }
 }
 
+/// The largest size of a component (docs/FORMAT.md, cause 5), and what it was before loud material was answered.
+pub const LARGEST: f32 = 16384.0;
+pub const EARLIER: f32 = 1024.0;
+
 /// Cause 5 of docs/FORMAT.md.
 pub fn outside(x: f32) -> bool {
-    !(x.abs() <= 1024.0)
+    !(x.abs() <= LARGEST)
+}
+
+/// Accepted, and refused before.
+pub fn louder(x: f32) -> bool {
+    !outside(x) && x.abs() > EARLIER
+}
+
+/// Both limits and their neighbours, in either sign.
+pub fn edges() -> [f32; 12] {
+    core::array::from_fn(|i| {
+        let x = nudged([EARLIER, LARGEST][i / 6], (i % 3) as i32 - 1);
+        if i / 3 % 2 == 0 { x } else { -x }
+    })
 }
 
 /// The f32 that lies n steps from x.
@@ -34,17 +51,43 @@ pub fn unit(random: &mut Random) -> f32 {
     (random.next() >> 40) as f32 / (1u64 << 24) as f32
 }
 
-/// A component: mostly in and around -1 to 1, quiet ones, wide ones, ends of the domain, denormals and both zeros.
+/// A component from 1.25 to 16384 in size, as many in each octave, or from 1024 on, or at its end.
+pub fn loud(random: &mut Random) -> f32 {
+    let (low, high) = (1.25f32.to_bits(), LARGEST.to_bits());
+    let x = match random.below(4) {
+        0 => nudged(LARGEST, -(random.below(3) as i32)),
+        1 => EARLIER + (LARGEST - EARLIER) * unit(random),
+        _ => f32::from_bits(low + random.below((high - low + 1) as usize) as u32),
+    };
+    if random.below(2) == 0 { x } else { -x }
+}
+
+/// A vector with a component of 16384, where an ulp is 1/512: the two vectors of a book that reach furthest its way are
+/// equally far but for rounding, and half the time in f32 too.
+pub fn loud_tie(random: &mut Random, hebap: u8) -> [f32; 6] {
+    let book: Vec<[f32; 6]> = (0..book_size(hebap)).map(|i| aht::vq_lookup(hebap, i)).collect();
+    let way: [f32; 6] = core::array::from_fn(|_| unit(random) - 0.5);
+    let dot = |a: &[f32; 6], b: &[f32; 6]| (0..6).map(|j| a[j] * b[j]).sum::<f32>();
+    let mut by: Vec<&[f32; 6]> = book.iter().collect();
+    by.sort_by(|a, b| dot(&way, b).total_cmp(&dot(&way, a)));
+    let apart: [f32; 6] = core::array::from_fn(|j| by[0][j] - by[1][j]);
+    let across: [f32; 6] = core::array::from_fn(|j| way[j] - dot(&way, &apart) / dot(&apart, &apart) * apart[j]);
+    let most = across.iter().fold(0f32, |m, v| m.max(v.abs()));
+    across.map(|v| v / most * LARGEST)
+}
+
+/// A component: mostly in and around -1 to 1, quiet ones, loud ones, ends of the domain, denormals and both zeros.
 pub fn component(random: &mut Random) -> f32 {
     let sign = if random.below(2) == 0 { 1.0 } else { -1.0 };
     sign * match random.below(16) {
         0 => 0.0,
         1 => f32::from_bits(random.below(1 << 23) as u32),
-        2 => 1024.0 * unit(random),
-        3 => nudged(1024.0, -(random.below(3) as i32)),
+        2 => LARGEST * unit(random),
+        3 => random.pick(&edges()).abs().min(LARGEST),
+        9 => loud(random),
         4..=6 => unit(random) / 64.0,
         7 => (random.below(1 << 16) as f32) / 32768.0,
-        8 => f32::from_bits((random.next() as u32 % 0x4480_0000).max(1)),
+        8 => f32::from_bits((random.next() as u32 % LARGEST.to_bits()).max(1)),
         _ => 1.2 * unit(random),
     }
 }
@@ -90,7 +133,7 @@ pub fn aimed(random: &mut Random, hebap: u8, gk: u8) -> f32 {
     nudged(x, random.below(7) as i32 - 3)
 }
 
-/// A row and its vectors: one kind of bin, or all kinds, quiet or loud, or aimed at the places where codes change.
+/// A row and its vectors: one kind of bin, or all kinds, quiet, loud, mixed, or aimed at the places where codes change.
 pub fn channel(random: &mut Random, bins: usize) -> (Vec<u8>, Vec<f32>) {
     let kind = random.below(6);
     let row: Vec<u8> = (0..bins)
@@ -102,7 +145,7 @@ pub fn channel(random: &mut Random, bins: usize) -> (Vec<u8>, Vec<f32>) {
             _ => random.below(20) as u8,
         })
         .collect();
-    let quiet = random.below(3);
+    let quiet = random.below(4);
     let x = row
         .iter()
         .flat_map(|&h| {
@@ -112,6 +155,7 @@ pub fn channel(random: &mut Random, bins: usize) -> (Vec<u8>, Vec<f32>) {
                     let gk = random.pick(&[2, 4]);
                     aimed(random, h, gk)
                 }
+                2 => loud(random),
                 _ => (unit(random) - 0.5) / [1.0, 2.0, 4.0, 16.0][random.below(4)],
             });
             v

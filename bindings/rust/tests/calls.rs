@@ -173,7 +173,7 @@ fn channels_come_back() {
         (&[17, 18, 19, 8], 0, 4, vectors(4, 1.0)),
         (&all, 0, 20, vectors(20, 0.1)),
         (&all, 3, 17, vectors(20, 0.3)),
-        (&all, 0, 20, vectors(20, 1024.0)),
+        (&all, 0, 20, vectors(20, 16384.0)),
         (&long, 0, 256, vectors(256, 0.2)),
         (&long, 0, 256, mixed.clone()),
         (&long, 100, 201, mixed.clone()),
@@ -362,7 +362,8 @@ fn refusal_4_hebap_above_19() {
 
 #[test]
 fn refusal_5_component_too_large() {
-    for bad in [f32::NAN, f32::INFINITY, -f32::INFINITY, 1024.0001, -1024.0001] {
+    let above = f32::from_bits(16384f32.to_bits() + 1);
+    for bad in [f32::NAN, f32::INFINITY, -f32::INFINITY, above, -above] {
         assert_eq!(Call::with(|c| c.x[29] = bad).plan(), Err(Refusal::ComponentTooLarge));
         assert_eq!(Call::with(|c| c.x[29] = bad).write(), Err(Refusal::ComponentTooLarge));
         let x = [0.0, 0.0, 0.0, bad, 0.0, 0.0];
@@ -370,7 +371,11 @@ fn refusal_5_component_too_large() {
         assert_eq!(quantise_scalar(8, 1, bad), Err(Refusal::ComponentTooLarge));
         assert_eq!(quantise_bin(8, 1, &x), Err(Refusal::ComponentTooLarge));
     }
-    assert!(Call::with(|c| c.x[29] = -1024.0).plan().is_ok());
+    for good in [16384.0, -16384.0] {
+        assert!(Call::with(|c| c.x[29] = good).plan().is_ok());
+        let x = [0.0, 0.0, 0.0, good, 0.0, 0.0];
+        assert!(vq_search(1, &x).is_ok() && quantise_scalar(8, 1, good).is_ok() && quantise_bin(8, 1, &x).is_ok());
+    }
     // nor is it looked at where nothing is coded
     assert!(Call::with(|c| (c.row[4], c.x[29]) = (0, f32::NAN)).plan().is_ok());
 }

@@ -1,37 +1,38 @@
 -- The search finds the first index of least distance. Assumes nothing.
 use Prim.Native.Nat.{ℕ, zero, suc, _+_, _-_, _*_, _^_, _≤_, _<_}
-use mathlib.Core.Path.{_≡_, refl, sym, _∙_, subst}
-use mathlib.Core.Bool.{Bool, true, false, not, _&&_, cond, true≢false, Bool·beq}
+use mathlib.Core.Path.{_≡_, refl, sym, ap, _∙_, subst}
+use mathlib.Core.Bool.{Bool, true, false, cond, true≢false}
 use mathlib.Core.List.{List, [], _∷_}
 use mathlib.Core.Logic.{_⊎_, inl, inr}
-use native.Mathlib.Nat.{not-le-of-lt, lt-of-not-le, eq-or-lt-of-le, le-of-lt, le-antisymm, add-zero, add-suc, suc-add}
+use native.Mathlib.Nat.{le-trans, le-of-eq, mul-le-mul-right, mul-pos, not-le-of-lt, lt-of-not-le, eq-or-lt-of-le, le-of-lt, le-antisymm, add-zero, add-suc, suc-add}
 use native.Mathlib.Omega.{arith}
-use lib.Dec.{T, ltb}
+use lib.Dec.{T, ltb, lit≤}
 use lib.IntN.{ℤ, pos, negsuc}
-use lib.Pow.{pow-pos}
+use lib.Pow.{pow-add, pow-mono, pow-pos}
+use lib.Signed.{mag}
 use lib.ListN.{getD, length}
-use lib.Ieee.{Float, nan, inf, fin, Format, binary32, prec, emax, low, up, down, unlike, odd, units, round, sum, add, sub, mul, div, neg, ofInt, ofBits, lt}
+use lib.Ieee.{Float, nan, inf, fin, Format, binary32, prec, emax, low, up, down, unlike, odd, units, round, sum, add, sub, mul, div, ofInt, ofBits, lt}
+use lib.Ieee.Exact.{HasValue}
 use lib.Ieee.Fits.{down-pos, round-is}
 use lib.Ieee.Positive.{through}
+use lib.Ieee.Scale.{finite}
 use borrow.Author.Tests.{ltb-true, ltb-false, lt-ltb, le-ltb, le-leb}
 use Rattle.tables.specs.Tables.{book, vqBits}
+use Rattle.tables.proofs.Rules.{book-fits}
 use Rattle.tables.proofs.Tests.{lt-or-le}
-use Rattle.levels.specs.Component.{tooLarge, someTooLarge}
+use Rattle.levels.specs.Component.{largestSize, beyond, tooLarge, someTooLarge}
 use Rattle.levels.specs.Value.{q15}
 use Rattle.levels.proofs.Range.{each-accepted}
-use Rattle.books.specs.Books.{termOf, sumTo, distanceOf, searchFrom, nearestIn, FirstLeast, searchOf, vqSearch}
+use Rattle.levels.proofs.Within.{AtMost, round-most, add-fraction, mul-fraction, sub-within}
+use Rattle.books.specs.Books.{termOf, sumTo, distanceOf, searchFrom, nearestIn, FirstLeast, searchOf, vqSearch, vqSearchUpTo}
+use Rattle.books.proofs.Quotients.{positive-exact, negative-exact}
 use Rattle.answers.specs.declared.SizeResult.the-variants.{Value}
 
--- ---- no NaN, and no NaN and not below zero
+-- ---- the fractions of a book are no NaN
 abbrev pub real : Float → Bool
 real nan = false
 real (inf s) = true
 real (fin s m e) = true
-
-abbrev plain : Float → Bool
-plain nan = false
-plain (inf s) = not s
-plain (fin s m e) = not s
 
 odd-real : (d : ℕ) (s : Bool) (q k l : ℕ) → T (real (odd d s q k l))
 unfolding odd
@@ -49,62 +50,6 @@ units-real f s q k = go (ltb (q * 2 ^ k) (2 ^ (low f + suc (emax f))))
 round-real : (f : Format) (s : Bool) (a c : ℕ) → T (real (round f s a c))
 round-real f s a c = subst (λ (z : Float). T (real z)) (sym (round-is f s a c)) (units-real f s _ _)
 
-odd-plain : (d q k l : ℕ) → T (plain (odd d false q k l))
-unfolding odd
-odd-plain d zero k l = tt
-odd-plain d (suc q) k l = tt
-
-units-plain : (f : Format) (q k : ℕ) → T (plain (units f false q k))
-unfolding units
-units-plain f q k = go (ltb (q * 2 ^ k) (2 ^ (low f + suc (emax f))))
-  where
-    go : (b : Bool) → T (plain (cond b (odd (suc (prec f)) false q k (low f)) (inf false)))
-    go true = odd-plain (suc (prec f)) q k (low f)
-    go false = tt
-
-round-plain : (f : Format) (a c : ℕ) → T (plain (round f false a c))
-round-plain f a c = subst (λ (z : Float). T (plain z)) (sym (round-is f false a c)) (units-plain f _ _)
-
-square-plain : (y : Float) → T (real y) → T (plain (mul binary32 y y))
-unfolding mul
-square-plain nan r = absurd r
-square-plain (inf true) r = tt
-square-plain (inf false) r = tt
-square-plain (fin true m e) r = round-plain binary32 (m * up e * (m * up e)) (down e * down e)
-square-plain (fin false m e) r = round-plain binary32 (m * up e * (m * up e)) (down e * down e)
-
-add-plain : (d q : Float) → T (plain d) → T (plain q) → T (plain (add binary32 d q))
-unfolding add sum
-add-plain nan q h k = absurd h
-add-plain (inf true) q h k = absurd h
-add-plain (inf false) nan h k = absurd k
-add-plain (inf false) (inf true) h k = absurd k
-add-plain (inf false) (inf false) h k = tt
-add-plain (inf false) (fin t n g) h k = tt
-add-plain (fin true m e) q h k = absurd h
-add-plain (fin false m e) nan h k = absurd k
-add-plain (fin false m e) (inf true) h k = absurd k
-add-plain (fin false m e) (inf false) h k = tt
-add-plain (fin false m e) (fin true n g) h k = absurd k
-add-plain (fin false m e) (fin false n g) h k = round-plain binary32 (m * up e * down g + n * up g * down e) (down e * down g)
-
-sum-real : (s : Bool) (a : ℕ) (t : Bool) (b c : ℕ) → T (real (sum binary32 s a t b c))
-unfolding sum
-sum-real s a t b c = go (Bool·beq s t) (ltb a b)
-  where
-    go : (u w : Bool) → T (real (cond u (round binary32 s (a + b) c) (cond w (round binary32 t (b - a) c) (round binary32 (s && ltb b a) (a - b) c))))
-    go true w = round-real binary32 s (a + b) c
-    go false true = round-real binary32 t (b - a) c
-    go false false = round-real binary32 _ (a - b) c
-
-sub-real : (x y : Float) → tooLarge x ≡ false → T (real y) → T (real (sub binary32 x y))
-unfolding sub add neg tooLarge
-sub-real nan y h r = absurd (true≢false h)
-sub-real (inf s) y h r = absurd (true≢false h)
-sub-real (fin s m e) nan h r = absurd r
-sub-real (fin s m e) (inf t) h r = tt
-sub-real (fin s m e) (fin t n g) h r = sum-real s (m * up e * down g) (not t) (n * up g * down e) (down e * down g)
-
 quotient-real : (x : Float) → T (real x) → T (real (div binary32 x (fin false 1 (pos 15))))
 unfolding div
 quotient-real nan r = absurd r
@@ -120,31 +65,64 @@ pub entry-real : (z : ℤ) → T (real (q15 z))
 unfolding q15 ofBits
 entry-real z = quotient-real (ofInt binary32 z) (int-real z)
 
-term-plain : (d x e : Float) → tooLarge x ≡ false → T (real e) → T (plain d) → T (plain (termOf d x e))
+-- ---- no distance is a NaN or infinite: each step of its sum has a bound
+-- a fraction of a book is 1 at most in size
+fraction-most : (x : Float) (s : Bool) (m : ℕ) → m ≤ 32768 → HasValue x s m 32768 → beyond 1 x ≡ false
+unfolding beyond
+fraction-most nan s m h v = absurd v
+fraction-most (inf t) s m h v = absurd v
+fraction-most (fin t n e) s m h v =
+    let l : n * up e * 32768 ≤ 32768 * down e = le-trans (le-of-eq (v .1)) (mul-le-mul-right (down e) h) in
+    le-ltb (1 * down e) (n * up e) (omega arith)
+
+entry-most : (z : ℤ) → mag z < 2 ^ 15 → beyond 1 (q15 z) ≡ false
+entry-most (pos n) h = fraction-most (q15 (pos n)) false n (omega arith) (positive-exact n (omega arith))
+entry-most (negsuc n) h = fraction-most (q15 (negsuc n)) true (suc n) (omega arith) (negative-exact n (omega arith))
+
+square-of : (m : ℕ) (e : ℤ) → m * up e ≤ 2 ^ 15 * down e → AtMost (2 ^ 30) (round binary32 false (m * up e * (m * up e)) (down e * down e))
+square-of m e h =
+    round-most (m * up e * (m * up e)) (down e * down e) 30 (mul-pos (down-pos e) (down-pos e)) (omega arith)
+    (mul-fraction (m * up e) (m * up e) (down e) (down e) (2 ^ 15) (2 ^ 15) 30 h h (lit≤ tt))
+
+square-most : (y : Float) → beyond (2 ^ 15) y ≡ false → AtMost (2 ^ 30) (mul binary32 y y)
+unfolding mul beyond
+square-most nan h = absurd (true≢false h)
+square-most (inf s) h = absurd (true≢false h)
+square-most (fin true m e) h = square-of m e (ltb-false (2 ^ 15 * down e) (m * up e) h)
+square-most (fin false m e) h = square-of m e (ltb-false (2 ^ 15 * down e) (m * up e) h)
+
+add-most : (n k : ℕ) (d q : Float) → k ≤ 127 → AtMost n d → AtMost (2 ^ 30) q → n + 2 ^ 30 ≤ 2 ^ k → AtMost (2 ^ k) (add binary32 d q)
+unfolding add sum
+add-most n k nan q u h g f = absurd h
+add-most n k (inf s) q u h g f = absurd h
+add-most n k (fin true m e) q u h g f = absurd h
+add-most n k (fin false m e) nan u h g f = absurd g
+add-most n k (fin false m e) (inf t) u h g f = absurd g
+add-most n k (fin false m e) (fin true l d) u h g f = absurd g
+add-most n k (fin false m e) (fin false l d) u h g f =
+    round-most (m * up e * down d + l * up d * down e) (down e * down d) k (mul-pos (down-pos e) (down-pos d)) u
+    (add-fraction (m * up e) (l * up d) (down e) (down d) n (2 ^ 30) k h g f)
+
+term-most : (n k : ℕ) (d x e : Float) → k ≤ 127 → AtMost n d → tooLarge x ≡ false → beyond 1 e ≡ false → n + 2 ^ 30 ≤ 2 ^ k → AtMost (2 ^ k) (termOf d x e)
 unfolding termOf
-term-plain d x e h r p = add-plain d (mul binary32 (sub binary32 x e) (sub binary32 x e)) p (square-plain (sub binary32 x e) (sub-real x e h r))
+term-most n k d x e u p h r f =
+    add-most n k d (mul binary32 (sub binary32 x e) (sub binary32 x e)) u p
+    (square-most (sub binary32 x e) (sub-within largestSize 1 15 (omega arith) x e h r (lit≤ tt))) f
 
 -- ---- the order of such numbers
-apart : (a b c : Float) → T (plain a) → T (plain b) → T (plain c) → lt a b ≡ true → lt c b ≡ false → (lt a c ≡ true) × (lt c a ≡ false)
+abbrev Number : Float → Type 0
+Number = AtMost (2 ^ 36)
+
+apart : (a b c : Float) → Number a → Number b → Number c → lt a b ≡ true → lt c b ≡ false → (lt a c ≡ true) × (lt c a ≡ false)
 unfolding lt
 apart nan b c p q r h k = absurd p
-apart (inf true) b c p q r h k = absurd p
-apart (inf false) nan c p q r h k = absurd q
-apart (inf false) (inf true) c p q r h k = absurd q
-apart (inf false) (inf false) c p q r h k = absurd (true≢false (sym h))
-apart (inf false) (fin t n d) c p q r h k = absurd (true≢false (sym h))
+apart (inf s) b c p q r h k = absurd p
 apart (fin true m e) b c p q r h k = absurd p
 apart (fin false m e) nan c p q r h k = absurd q
-apart (fin false m e) (inf true) c p q r h k = absurd q
+apart (fin false m e) (inf t) c p q r h k = absurd q
 apart (fin false m e) (fin true n d) c p q r h k = absurd q
-apart (fin false m e) (inf false) nan p q r h k = absurd r
-apart (fin false m e) (inf false) (inf true) p q r h k = absurd r
-apart (fin false m e) (inf false) (inf false) p q r h k = (refl, refl)
-apart (fin false m e) (inf false) (fin true l g) p q r h k = absurd r
-apart (fin false m e) (inf false) (fin false l g) p q r h k = absurd (true≢false k)
 apart (fin false m e) (fin false n d) nan p q r h k = absurd r
-apart (fin false m e) (fin false n d) (inf true) p q r h k = absurd r
-apart (fin false m e) (fin false n d) (inf false) p q r h k = (refl, refl)
+apart (fin false m e) (fin false n d) (inf s) p q r h k = absurd r
 apart (fin false m e) (fin false n d) (fin true l g) p q r h k = absurd r
 apart (fin false m e) (fin false n d) (fin false l g) p q r h k =
     let below : m * up e * down d < n * up d * down e = ltb-true _ _ h in
@@ -153,53 +131,59 @@ apart (fin false m e) (fin false n d) (fin false l g) p q r h k =
     lt-of-not-le (λ (f : l * up g * down e ≤ m * up e * down g). not-le-of-lt below (through (n * up d) (l * up g) (m * up e) (down d) (down g) (down e) (down-pos g) above f)) in
     (lt-ltb _ _ less, le-ltb _ _ (le-of-lt less))
 
-top-only : (c : Float) → T (plain c) → lt c (inf false) ≡ false → c ≡ inf false
+never-self : (c : Float) → Number c → lt c c ≡ false
 unfolding lt
-top-only nan p h = absurd p
-top-only (inf true) p h = absurd p
-top-only (inf false) p h = refl
-top-only (fin s m e) p h = absurd (true≢false h)
-
-never-self : (c : Float) → T (plain c) → lt c c ≡ false
-unfolding lt
-never-self nan p = refl
-never-self (inf true) p = absurd p
-never-self (inf false) p = refl
+never-self nan p = absurd p
+never-self (inf s) p = absurd p
 never-self (fin true m e) p = absurd p
 never-self (fin false m e) p = le-ltb (m * up e * down e) (m * up e * down e) (omega arith)
 
-module _ (x : List Float) (b : List ℤ) (l : length x ≡ 6) (h : someTooLarge x ≡ false) where
+-- below infinity, from which the search starts
+under : (c : Float) → Number c → lt c (inf false) ≡ true
+unfolding lt
+under nan p = absurd p
+under (inf s) p = absurd p
+under (fin s m e) p = refl
+
+number-finite : (c : Float) → Number c → T (finite c)
+number-finite nan p = absurd p
+number-finite (inf s) p = absurd p
+number-finite (fin s m e) p = tt
+
+module _ (x : List Float) (b : List ℤ) (l : length x ≡ 6) (h : someTooLarge x ≡ false) (fits : (i : ℕ) → mag (getD b i (pos 0)) < 2 ^ 15) where
   abbrev D : ℕ → Float
   D = distanceOf x b
 
-  sum-plain : (j a : ℕ) → j ≤ 6 → T (plain (sumTo j x b a))
+  -- each component adds 2 ^ 30 at most
+  sum-most : (j a : ℕ) → j ≤ 6 → AtMost (2 ^ (30 + j)) (sumTo j x b a)
   unfolding sumTo ofBits
-  sum-plain zero a k = tt
-  sum-plain (suc j) a k = term-plain (sumTo j x b a) (getD x j nan) _ (each-accepted x nan j h (omega arith)) (entry-real _) (sum-plain j a (omega arith))
+  sum-most zero a k = omega arith
+  sum-most (suc j) a k =
+      let next : 30 + suc j ≡ 30 + j + 1 = omega arith in
+      let two : 2 ^ (30 + suc j) ≡ 2 ^ (30 + j) * 2 = ap (λ (n : ℕ). 2 ^ n) next ∙ pow-add 2 (30 + j) 1 in
+      let u : 30 ≤ 30 + j = omega arith in
+      let more : 2 ^ 30 ≤ 2 ^ (30 + j) = pow-mono u in
+      term-most (2 ^ (30 + j)) (30 + suc j) (sumTo j x b a) (getD x j nan) _ (omega arith) (sum-most j a (omega arith)) (each-accepted x nan j h (omega arith))
+      (entry-most (getD b (a + j) (pos 0)) (fits (a + j))) (omega arith)
 
-  distance-plain : (k : ℕ) → T (plain (D k))
+  distance-number : (k : ℕ) → Number (D k)
   unfolding distanceOf
-  distance-plain k = sum-plain 6 (k * 6) (omega arith)
+  distance-number k = sum-most 6 (k * 6) (omega arith)
 
   -- the first of least distance among the vectors before k, and its distance
   record LeastBefore (k best : ℕ) (d : Float) : Type 0 where
     known : d ≡ D best
     least : FirstLeast x b k best
 
-  first : LeastBefore 1 (cond (lt (D 0) (inf false)) 0 0) (cond (lt (D 0) (inf false)) (D 0) (inf false))
-  first = go (lt (D 0) (inf false)) refl
-    where
-      only : FirstLeast x b 1 0
-      only =
-          record {
-            there = omega arith;
-            none-smaller = λ j u. let z : j ≡ 0 = omega arith in rw z (never-self (D 0) (distance-plain 0));
-            earlier-larger = λ j u. absurd (let z : j < 0 = u in omega arith);
-          }
-
-      go : (t : Bool) → lt (D 0) (inf false) ≡ t → LeastBefore 1 (cond t 0 0) (cond t (D 0) (inf false))
-      go true e = record { known = refl; least = only }
-      go false e = record { known = sym (top-only (D 0) (distance-plain 0) e); least = only }
+  first : LeastBefore 1 0 (D 0)
+  first =
+      let only : FirstLeast x b 1 0 =
+      record {
+        there = omega arith;
+        none-smaller = λ j u. let z : j ≡ 0 = omega arith in rw z (never-self (D 0) (distance-number 0));
+        earlier-larger = λ j u. absurd (let z : j < 0 = u in omega arith);
+      } in
+      record { known = refl; least = only }
 
   next : (k best : ℕ) (d : Float) → LeastBefore k best d → LeastBefore (suc k) (cond (lt (D k) d) k best) (cond (lt (D k) d) (D k) d)
   next k best d s = go (lt (D k) d) refl
@@ -211,7 +195,7 @@ module _ (x : List Float) (b : List ℤ) (l : length x ≡ 6) (h : someTooLarge 
       split j u = eq-or-lt-of-le (let v : j ≤ k = omega arith in v)
 
       beyond : lt (D k) d ≡ true → (j : ℕ) → j < k → (lt (D k) (D j) ≡ true) × (lt (D j) (D k) ≡ false)
-      beyond e j v = apart (D k) (D best) (D j) (distance-plain k) (distance-plain best) (distance-plain j) (rw (s .known) at e) (f .none-smaller j v)
+      beyond e j v = apart (D k) (D best) (D j) (distance-number k) (distance-number best) (distance-number j) (rw (s .known) at e) (f .none-smaller j v)
 
       go : (t : Bool) → lt (D k) d ≡ t → LeastBefore (suc k) (cond t k best) (cond t (D k) d)
       go true e =
@@ -219,7 +203,7 @@ module _ (x : List Float) (b : List ℤ) (l : length x ≡ 6) (h : someTooLarge 
           record {
             there = omega arith;
             none-smaller = λ j u. elim (split j u) [
-              | inl q ↦ rw q (never-self (D k) (distance-plain k))
+              | inl q ↦ rw q (never-self (D k) (distance-number k))
               | inr v ↦ beyond e j v .1
             ];
             earlier-larger = λ j u. beyond e j u .0;
@@ -248,7 +232,7 @@ module _ (x : List Float) (b : List ℤ) (l : length x ≡ 6) (h : someTooLarge 
   first-least zero p = absurd (omega arith)
   first-least (suc n) p =
       let one : 1 + n ≡ suc n = omega arith in
-      subst (λ (m : ℕ). FirstLeast x b m (nearestIn b (suc n) x)) one (search-on n 1 _ _ first)
+      rw (under (D 0) (distance-number 0)) (subst (λ (m : ℕ). FirstLeast x b m (searchFrom D n 1 0 (D 0))) one (search-on n 1 0 (D 0) first))
 
 -- ---- there is only one such index
 -- the later of two would have a smaller distance than the earlier
@@ -262,15 +246,19 @@ not-later x b n k k′ f g =
 first-unique : (x : List Float) (b : List ℤ) (n k k′ : ℕ) → FirstLeast x b n k → FirstLeast x b n k′ → k ≡ k′
 first-unique x b n k k′ f g = le-antisymm (not-later x b n k′ k g f) (not-later x b n k k′ f g)
 
+-- ---- no distance in the search is a NaN or infinite
+pub distances-finite : (h : ℕ) (x : List Float) → 1 ≤ h → h ≤ 7 → length x ≡ 6 → someTooLarge x ≡ false → (k : ℕ) → T (finite (distanceOf x (book h) k))
+distances-finite h x l u s a k = number-finite (distanceOf x (book h) k) (distance-number x (book h) s a (λ i. book-fits h i l u) k)
+
 -- ---- the index that the search picks, and no other, is the first of least distance in the book of the hebap
 pub search-first : (h : ℕ) (x : List Float) → 1 ≤ h → h ≤ 7 → length x ≡ 6 → someTooLarge x ≡ false → FirstLeast x (book h) (2 ^ vqBits h) (searchOf h x)
 unfolding searchOf
-search-first h x l u s a = first-least x (book h) s a (2 ^ vqBits h) (pow-pos (vqBits h))
+search-first h x l u s a = first-least x (book h) s a (λ i. book-fits h i l u) (2 ^ vqBits h) (pow-pos (vqBits h))
 
 pub search-only : (h : ℕ) (x : List Float) → 1 ≤ h → h ≤ 7 → length x ≡ 6 → someTooLarge x ≡ false → (k : ℕ) → FirstLeast x (book h) (2 ^ vqBits h) k → k ≡ searchOf h x
 search-only h x l u s a k f = first-unique x (book h) (2 ^ vqBits h) k (searchOf h x) f (search-first h x l u s a)
 
 -- and it is the answer
 pub search-answer : (h : ℕ) (x : List Float) → 1 ≤ h → h ≤ 7 → someTooLarge x ≡ false → vqSearch h x ≡ Value (searchOf h x)
-unfolding vqSearch
+unfolding vqSearchUpTo
 search-answer h x l u a = rw (le-leb 1 h l, le-leb h 7 u, a)

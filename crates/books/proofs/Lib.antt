@@ -6,3 +6,4 @@ pub mod Laws
 pub mod First
 pub mod Loading
 pub mod Vectors
+pub mod Wider

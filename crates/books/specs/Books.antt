@@ -9,7 +9,7 @@ use lib.IntN.{ℤ, pos, _*ℤ_}
 use lib.ListN.{getD, replicate}
 use lib.Ieee.{Float, nan, inf, binary32, add, sub, mul, lt}
 use Rattle.tables.specs.Tables.{book, vqBits}
-use Rattle.levels.specs.Component.{someTooLarge}
+use Rattle.levels.specs.Component.{someBeyond, largestSize}
 use Rattle.levels.specs.Value.{f0, q15}
 use Rattle.answers.specs.declared.SizeResult.{SizeResult}
 use Rattle.answers.specs.Causes as cause
@@ -79,5 +79,12 @@ nearestIn b n x = searchFrom (distanceOf x b) n 0 0 (inf false)
 unfoldable pub searchOf : ℕ → List Float → ℕ
 searchOf h x = nearestIn (book h) (2 ^ vqBits h) x
 
-unfoldable pub vqSearch : ℕ → List Float → SizeResult
-vqSearch h x = cond (hasBook h) (cond (someTooLarge x) (SizeResult.Refused cause.component) (SizeResult.Value (searchOf h x))) (SizeResult.Value 0)
+-- where components up to a limit are accepted
+unfoldable pub vqSearchUpTo : ℕ → ℕ → List Float → SizeResult
+vqSearchUpTo limit h x =
+    cond (hasBook h)
+    (cond (someBeyond limit x) (SizeResult.Refused cause.component) (SizeResult.Value (searchOf h x)))
+    (SizeResult.Value 0)
+
+abbrev pub vqSearch : ℕ → List Float → SizeResult
+vqSearch = vqSearchUpTo largestSize

@@ -154,3 +154,12 @@ none-there p start end h i l u = go (p i) refl
     go : (t : Bool) → p i ≡ t → t ≡ false
     go true e = absurd (true≢false (some-found p start i end l u e ∙ h))
     go false e = refl
+
+pub none-over : (p : ℕ → Bool) (start end : ℕ) → ((k : ℕ) → start ≤ k → k < end → p k ≡ false) → someOver p start end ≡ false
+unfolding someOver
+none-over p start zero h = refl
+none-over p start (suc e) h = go (leb start e) refl (none-over p start e (λ k l u. h k l (omega arith)))
+  where
+    go : (t : Bool) → leb start e ≡ t → someOver p start e ≡ false → cond t (someOver p start e || p e) false ≡ false
+    go true q r = ap (λ (t : Bool). t || p e) r ∙ h e (leb-true start e q) (omega arith)
+    go false q r = refl

@@ -9,7 +9,7 @@ use Rattle.bits.specs.Format.{number, each-enc}
 use Rattle.tables.specs.Numbers.{mantBitsTable, gaqRemapTable}
 use Rattle.tables.specs.Tables.{mantBits, gaqRemapAt}
 use Rattle.levels.specs.Codes.{tagged, coded}
-use Rattle.levels.specs.Component.{tooLarge}
+use Rattle.levels.specs.Component.{beyond}
 use Rattle.levels.specs.Value.{q15, offsetAt, gaqRemap, divided}
 use Rattle.gains.specs.Gains.{endbap, active, codingOf, otherGains, gainValue, wordBits, sections, gainWordBits}
 use Rattle.channel.specs.Bins.{from, sumOver, someOver}
@@ -19,7 +19,7 @@ use Rattle.quantiser.specs.Round.{roundMag, roundAway}
 use Rattle.quantiser.specs.Quantise.{absF, valueAt, probed, bestOf, estOne, bestOne, slopeAt, estLarge, bestLarge, smallOf, oneCode, largeCode, taggedCode, picked, codesBits}
 use Rattle.planner.specs.Cost.{binBits}
 use Rattle.planner.specs.Choice.{cheapest, leastUpTo, bestGain, leastAt, leastOf, planMode, gainsOver, planGains, planPayload}
-use Rattle.planner.specs.Planning.{tooLargeAt, planOf, causeOf, planned}
+use Rattle.planner.specs.Planning.{beyondAt, planOf, causeUpTo, plannedUpTo}
 use Rattle.plantext.proofs.Printing.{samplePlan, sampleText, sample-text}
 use Rattle.desktext.specs.Spelling.{largest}
 use Rattle.desktext.specs.Printed.{componentOf}
@@ -49,10 +49,10 @@ example = refl
 pub example-planned : planAnswer (8 ∷ 0 ∷ []) 0 2 (map componentOf exampleVectors) ≡ sampleText
 unfolding planAnswer samplePlan componentOf
     add sub mul div le neg ofInt ofBits isNan bitsN numberOf bitsOf bytesOf splice bytesWith number each-enc
-    mantBitsTable gaqRemapTable mantBits gaqRemapAt tagged coded tooLarge q15 offsetAt gaqRemap divided endbap active codingOf otherGains gainValue wordBits sections gainWordBits
+    mantBitsTable gaqRemapTable mantBits gaqRemapAt tagged coded beyond q15 offsetAt gaqRemap divided endbap active codingOf otherGains gainValue wordBits sections gainWordBits
     groupWords gainWords binOf binAt gainAt from roundMag roundAway absF valueAt probed bestOf estOne
     bestOne slopeAt estLarge bestLarge smallOf oneCode largeCode taggedCode picked sumOver someOver binBits codesBits cheapest leastUpTo
-    activeAt activeCount bestGain leastAt leastOf planMode gainsOver planGains planPayload noGains unknownAt tooLargeAt planOf causeOf planned rowCause
+    activeAt activeCount bestGain leastAt leastOf planMode gainsOver planGains planPayload noGains unknownAt beyondAt planOf causeUpTo plannedUpTo rowCause
 example-planned = sample-text
 
 -- ---- texts that a single byte spoils, or does not

@@ -8,3 +8,5 @@ pub mod Range
 pub mod Remapping
 pub mod Common
 pub mod ScaleRows
+pub mod Within
+pub mod Wider

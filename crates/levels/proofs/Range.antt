@@ -15,10 +15,11 @@ use lib.Seq.{drop-cons}
 use lib.Ieee.{Float, nan, inf, fin, up, down, lt, eq, le}
 use lib.Ieee.Fits.{down-pos}
 use Rattle.bits.proofs.Tests.{neither, or-left, or-right}
-use Rattle.levels.specs.Component.{tooLarge, someTooLarge}
+use Rattle.levels.specs.Component.{beyond, largestSize, tooLarge, someTooLarge}
 
-abbrev pub f1024 : Float
-f1024 = fin false 1 (pos 10)
+-- the limit as an f32, in either sign
+abbrev limit : Bool → Float
+limit s = fin s 1 (pos 14)
 
 -- a ≤ b as two tests, and as one
 two-tests : (a b : ℕ) (q : Bool) → (a ≡ b → q ≡ true) → ((a ≡ b → ⊥) → q ≡ false) → ltb a b || q ≡ not (ltb b a)
@@ -38,28 +39,28 @@ and-left : (a b : Bool) → b ≡ true → a && b ≡ a
 and-left true b h = h
 and-left false b h = refl
 
-above : (m : ℕ) (e : ℤ) → 0 < m * up e * 1 + 1024 * down e
+above : (m : ℕ) (e : ℤ) → 0 < m * up e * 1 + largestSize * down e
 above m e = let d : 0 < down e = down-pos e in omega arith
 
-lower : (m : ℕ) (e : ℤ) → le (fin true 1 (pos 10)) (fin true m e) ≡ not (ltb (1024 * down e) (m * up e))
+lower : (m : ℕ) (e : ℤ) → le (limit true) (fin true m e) ≡ not (ltb (largestSize * down e) (m * up e))
 unfolding le lt eq
 lower m e =
-    two-tests (m * up e * 1) (1024 * down e) (eqb (1024 * down e) (m * up e * 1) && true) (λ (q : m * up e * 1 ≡ 1024 * down e). and-left _ true refl ∙ eq-eqb _ _ (sym q)) (λ (n : m * up e * 1 ≡ 1024 * down e → ⊥). and-left _ true refl ∙ ne-eqb _ _ (λ (q : 1024 * down e ≡ m * up e * 1). n (sym q)))
-    ∙ ap (λ (a : ℕ). not (ltb (1024 * down e) a)) (mul-one (m * up e))
+    two-tests (m * up e * 1) (largestSize * down e) (eqb (largestSize * down e) (m * up e * 1) && true) (λ (q : m * up e * 1 ≡ largestSize * down e). and-left _ true refl ∙ eq-eqb _ _ (sym q)) (λ (n : m * up e * 1 ≡ largestSize * down e → ⊥). and-left _ true refl ∙ ne-eqb _ _ (λ (q : largestSize * down e ≡ m * up e * 1). n (sym q)))
+    ∙ ap (λ (a : ℕ). not (ltb (largestSize * down e) a)) (mul-one (m * up e))
 
-pub range-low : (x : Float) → le (fin true 1 (pos 10)) x ≡ true → le x f1024 ≡ not (tooLarge x)
-unfolding le lt eq tooLarge
+pub range-low : (x : Float) → le (limit true) x ≡ true → le x (limit false) ≡ not (tooLarge x)
+unfolding le lt eq beyond
 range-low nan h = refl
 range-low (inf true) h = absurd (true≢false (sym h))
 range-low (inf false) h = refl
-range-low (fin false m e) h = two-tests (m * up e * 1) (1024 * down e) (eqb (m * up e * 1) (1024 * down e) && true) (λ (q : m * up e * 1 ≡ 1024 * down e). and-left _ true refl ∙ eq-eqb _ _ q) (λ (n : m * up e * 1 ≡ 1024 * down e → ⊥). and-left _ true refl ∙ ne-eqb _ _ n) ∙ ap (λ (a : ℕ). not (ltb (1024 * down e) a)) (mul-one (m * up e))
-range-low (fin true m e) h = or-left _ _ (lt-ltb 0 (m * up e * 1 + 1024 * down e) (above m e)) ∙ sym (sym (lower m e) ∙ h)
+range-low (fin false m e) h = two-tests (m * up e * 1) (largestSize * down e) (eqb (m * up e * 1) (largestSize * down e) && true) (λ (q : m * up e * 1 ≡ largestSize * down e). and-left _ true refl ∙ eq-eqb _ _ q) (λ (n : m * up e * 1 ≡ largestSize * down e → ⊥). and-left _ true refl ∙ ne-eqb _ _ n) ∙ ap (λ (a : ℕ). not (ltb (largestSize * down e) a)) (mul-one (m * up e))
+range-low (fin true m e) h = or-left _ _ (lt-ltb 0 (m * up e * 1 + largestSize * down e) (above m e)) ∙ sym (sym (lower m e) ∙ h)
 
-pub range-out : (x : Float) → le (fin true 1 (pos 10)) x ≡ false → false ≡ not (tooLarge x)
-unfolding le lt eq tooLarge
+pub range-out : (x : Float) → le (limit true) x ≡ false → false ≡ not (tooLarge x)
+unfolding le lt eq beyond
 range-out nan h = refl
 range-out (inf s) h = refl
-range-out (fin false m e) h = absurd (true≢false (sym (or-left _ _ (lt-ltb 0 (1024 * down e + m * up e * 1) (let a = above m e in omega arith))) ∙ h))
+range-out (fin false m e) h = absurd (true≢false (sym (or-left _ _ (lt-ltb 0 (largestSize * down e + m * up e * 1) (let a = above m e in omega arith))) ∙ h))
 range-out (fin true m e) h = sym (sym (lower m e) ∙ h)
 
 -- ---- a loop over components

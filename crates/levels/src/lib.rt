@@ -78,7 +78,7 @@ fn signed_code(u: u32, w: u32) -> i32
 }
 
 // The greatest size of a component.
-pub const LARGEST_SIZE: f32 = 1024.0;
+pub const LARGEST_SIZE: f32 = 16384.0;
 
 // Whether a component is accepted: no NaN, and not too large.
 pub fn in_range(x: f32) -> bool

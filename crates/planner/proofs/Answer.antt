@@ -16,7 +16,7 @@ use Rattle.channel.proofs.Over.{none-of}
 use Rattle.channel.proofs.Rows.{row-ok, cause-4-or-0, count-most, row-cause-most}
 use Rattle.planner.specs.Choice.{leastUpTo, leastOf, planMode, planGains, planPayload, choiceBits, Choice, gainsOver}
 use Rattle.planner.specs.Work.{modeAt, TalliesOf, payloadIn, Within}
-use Rattle.planner.specs.Planning.{tooLargeAt, refusalOf, planOf, causeOf, planned, totalOf, gainsOf}
+use Rattle.planner.specs.Planning.{tooLargeAt, beyondAt, refusalOf, planOf, causeOf, causeUpTo, planned, plannedUpTo, totalOf, gainsOf}
 use Rattle.planner.specs.Fit.{planFits}
 use Rattle.planner.specs.declared.Plan.{Plan}
 use Rattle.planner.specs.declared.Planned.{Planned}
@@ -52,11 +52,11 @@ module _ (row : List ℕ) (x : List Float) (start end plain : ℕ) (bits used ke
 
 -- ---- cause 5 at a bin
 pub too-large-none : (row : List ℕ) (x : List Float) (k : ℕ) → getD row k 0 ≡ 0 → false ≡ tooLargeAt row x k
-unfolding tooLargeAt
+unfolding beyondAt
 too-large-none row x k e = sym (ap (λ (z : ℕ). not (eqb z 0) && someTooLarge (sixOf x k)) e)
 
 pub too-large-some : (row : List ℕ) (x : List Float) (k : ℕ) (r : Bool) → (getD row k 0 ≡ 0 → ⊥) → r ≡ someTooLarge (take (6 * k + 6 - 6 * k) (drop (6 * k) x)) → r ≡ tooLargeAt row x k
-unfolding tooLargeAt
+unfolding beyondAt
 too-large-some row x k r n e =
     let six : 6 * k + 6 - 6 * k ≡ 6 = omega arith in
     e ∙ ap (λ (w : ℕ). someTooLarge (take w (drop (6 * k) x))) six ∙ sym (ap (λ (t : Bool). not t && someTooLarge (sixOf x k)) (ne-eqb (getD row k 0) 0 n))
@@ -77,18 +77,18 @@ module _ (row : List ℕ) (start end : ℕ) (x : List Float) where
     by-product = ek ∙ ap (rowCause row start end) (short-is (length x) end)
 
     pub cause-row : (k ≡ 0 → ⊥) → k ≡ causeOf row start end x
-    unfolding causeOf
+    unfolding causeUpTo
     cause-row n = rw (sym by-product, ne-eqb k 0 n)
 
     pub cause-within : k ≡ 0 → Within row start end x
     cause-within z = let r = row-ok row start end (ltb (length x) (6 * end)) (sym by-product ∙ z) in record { row-ok = r .0; vectors = ltb-false (length x) (6 * end) (r .1) }
 
     pub cause-rest : k ≡ 0 → (t : Bool) → someOver (tooLargeAt row x) start end ≡ t → cond t 5 0 ≡ causeOf row start end x
-    unfolding causeOf
+    unfolding causeUpTo
     cause-rest z t e = sym (rw (sym by-product ∙ z, e) refl)
 
   pub cause-0 : Within row start end x → someOver (tooLargeAt row x) start end ≡ false → 0 ≡ causeOf row start end x
-  unfolding causeOf
+  unfolding causeUpTo
   cause-0 w e =
       let r = w .row-ok in
       let z : 0 ≡ rowCause row start end (ltb (length x) (6 * end)) =
@@ -97,7 +97,7 @@ module _ (row : List ℕ) (start end : ℕ) (x : List Float) where
 
   -- Where the cause is 0, none of the five holds.
   pub cause-none : causeOf row start end x ≡ 0 → Within row start end x × (someOver (tooLargeAt row x) start end ≡ false)
-  unfolding causeOf
+  unfolding causeUpTo
   cause-none h = go (eqb k 0) refl h
     where
       k : ℕ
@@ -111,7 +111,7 @@ module _ (row : List ℕ) (start end : ℕ) (x : List Float) where
 
   -- They are 1 to 5.
   pub cause-most : causeOf row start end x ≤ 5
-  unfolding causeOf
+  unfolding causeUpTo
   cause-most = go (rowCause row start end (ltb (length x) (6 * end))) (row-cause-most row start end (ltb (length x) (6 * end))) (someOver (tooLargeAt row x) start end)
     where
       go : (k : ℕ) → k ≤ 4 → (t : Bool) → cond (eqb k 0) (cond t 5 0) k ≤ 5
@@ -123,23 +123,23 @@ module _ (row : List ℕ) (start end : ℕ) (x : List Float) where
           of false t = omega arith
 
 -- ---- the answer
-number-is : (k : ℕ) (p : Plan) → cond (eqb k 0) (record { refusal = 0; plan = p }) (refusalOf k) .refusal ≡ k
+pub number-is : (k : ℕ) (p : Plan) → cond (eqb k 0) (record { refusal = 0; plan = p }) (refusalOf k) .refusal ≡ k
 unfolding refusalOf
 number-is zero p = refl
 number-is (suc k) p = rw (ne-eqb (suc k) 0 (λ (e : suc k ≡ 0). omega arith))
 
 module _ (row : List ℕ) (start end : ℕ) (x : List Float) where
   pub planned-good : (p : Plan) → p ≡ planOf row x start end → causeOf row start end x ≡ 0 → _≡_ {A = Planned} (record { refusal = 0; plan = p }) (planned row start end x)
-  unfolding planned
+  unfolding plannedUpTo
   planned-good p e h = ap (λ (z : Plan). record { refusal = 0; plan = z }) e ∙ sym (rw h)
 
   pub planned-refused : (k : ℕ) → k ≡ causeOf row start end x → (k ≡ 0 → ⊥) → refusalOf k ≡ planned row start end x
-  unfolding planned
+  unfolding plannedUpTo
   planned-refused k e n = rw (sym e, ne-eqb k 0 n)
 
   -- The refusal is the cause.
   pub refusal-is : planned row start end x .refusal ≡ causeOf row start end x
-  unfolding planned
+  unfolding plannedUpTo
   refusal-is = number-is (causeOf row start end x) (planOf row x start end)
 
   -- Where none of causes 1 to 5 holds a plan is given.

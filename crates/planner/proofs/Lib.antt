@@ -5,3 +5,4 @@ pub mod Steps
 pub mod Tallies
 pub mod Chosen
 pub mod Answer
+pub mod Wider

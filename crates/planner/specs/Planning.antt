@@ -7,7 +7,7 @@ use lib.Dec.{eqb, ltb}
 use lib.ListN.{length, getD, take, drop}
 use lib.Ieee.{Float}
 use Rattle.answers.specs.Causes as cause
-use Rattle.levels.specs.Component.{someTooLarge}
+use Rattle.levels.specs.Component.{someBeyond, largestSize}
 use Rattle.channel.specs.Bins.{someOver}
 use Rattle.channel.specs.Row.{noGains, sixOf, rowCause}
 use Rattle.planner.specs.Choice.{planMode, planGains, planPayload}
@@ -15,15 +15,22 @@ use Rattle.planner.specs.declared.Plan.{Plan}
 use Rattle.planner.specs.declared.Planned.{Planned}
 
 -- ---- the cause
--- 5 at the bin k: a component that is not accepted, and hebap not 0
-unfoldable pub tooLargeAt : List ℕ → List Float → ℕ → Bool
-tooLargeAt row x k = not (eqb (getD row k 0) 0) && someTooLarge (sixOf x k)
+-- 5 at the bin k: a component beyond the limit, and hebap not 0
+unfoldable pub beyondAt : ℕ → List ℕ → List Float → ℕ → Bool
+beyondAt limit row x k = not (eqb (getD row k 0) 0) && someBeyond limit (sixOf x k)
 
 -- 1 to 5: the lowest that holds, 0 where none does
-unfoldable pub causeOf : List ℕ → ℕ → ℕ → List Float → ℕ
-causeOf row start end x =
+unfoldable pub causeUpTo : ℕ → List ℕ → ℕ → ℕ → List Float → ℕ
+causeUpTo limit row start end x =
     let k = rowCause row start end (ltb (length x) (6 * end)) in
-    cond (eqb k 0) (cond (someOver (tooLargeAt row x) start end) cause.component cause.none) k
+    cond (eqb k 0) (cond (someOver (beyondAt limit row x) start end) cause.component cause.none) k
+
+-- at the limit that holds
+abbrev pub tooLargeAt : List ℕ → List Float → ℕ → Bool
+tooLargeAt = beyondAt largestSize
+
+abbrev pub causeOf : List ℕ → ℕ → ℕ → List Float → ℕ
+causeOf = causeUpTo largestSize
 
 -- ---- the answer
 -- a plan of zeros stands beside a refusal
@@ -50,6 +57,11 @@ gainsOf p = take (p .count) (p .gains)
 abbrev pub totalOf : Plan → ℕ
 totalOf p = 2 + p .payload
 
-unfoldable pub planned : List ℕ → ℕ → ℕ → List Float → Planned
-planned row start end x =
-    cond (eqb (causeOf row start end x) 0) (record { refusal = 0; plan = planOf row x start end }) (refusalOf (causeOf row start end x))
+unfoldable pub plannedUpTo : ℕ → List ℕ → ℕ → ℕ → List Float → Planned
+plannedUpTo limit row start end x =
+    cond (eqb (causeUpTo limit row start end x) 0)
+    (record { refusal = 0; plan = planOf row x start end })
+    (refusalOf (causeUpTo limit row start end x))
+
+abbrev pub planned : List ℕ → ℕ → ℕ → List Float → Planned
+planned = plannedUpTo largestSize

@@ -29,7 +29,7 @@ use Rattle.channel.specs.Field.{gainCode, gainBit, groupWords, gainWords, lenie
 use Rattle.channel.proofs.Over.{sum-next}
 use Rattle.channel.proofs.Rows.{count-start, known-hebap}
 use Rattle.writer.proofs.Channel.{six-long}
-use Rattle.writer.specs.Written.{codesOf, itemOf, writtenAt, writtenOf, fieldOf, writeCause, channelWrite, channelWritten, writeNumber, writePlace}
+use Rattle.writer.specs.Written.{codesOf, itemOf, writtenAt, writtenOf, fieldOf, writeCause, channelWrite, channelWriteUpTo, channelWritten, channelWrittenUpTo, writeNumber, writePlace}
 use Rattle.writer.specs.declared.ChannelWrite.{ChannelWrite}
 use Rattle.writer.specs.declared.ChannelWrite.the-variants.{Done}
 use Rattle.writer.proofs.Call.{count-few, fitting}
@@ -350,7 +350,7 @@ module _ (p : Plan) (row : List ℕ) (start end : ℕ) (x : List Float) (places 
   pub writing-is-ahtenc : (out : List ℕ) (at : ℕ) → writeNumber (channelWrite p row start end x out at) ≡ 0
       → (channelWritten p row start end x out at ≡ afterWrites out at calls)
       × (writePlace (posOf at) (channelWrite p row start end x out at) ≡ posOf (behindWrites at calls))
-  unfolding channelWrite channelWritten
+  unfolding channelWriteUpTo channelWrittenUpTo
   writing-is-ahtenc out at = go (eqb (cause out at) 0) refl
     where
       go : (t : Bool) → eqb (cause out at) 0 ≡ t → let r = cond t (Done (posOf (at + totalOf p))) (ChannelWrite.Refused (cause out at)) in

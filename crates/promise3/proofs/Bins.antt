@@ -18,7 +18,7 @@ use Rattle.levels.specs.Exact.{exactOf}
 use Rattle.levels.specs.Value.{valueIn, valueOf}
 use Rattle.levels.specs.declared.Code.{Code}
 use Rattle.books.specs.Books.{searchOf}
-use Rattle.quantiser.specs.Quantise.{picked, allowed, quantised}
+use Rattle.quantiser.specs.Quantise.{picked, allowed, quantised, quantisedUpTo}
 use Rattle.quantiser.specs.declared.PickResult.{PickResult}
 use Rattle.quantiser.proofs.Facts.{picked-level}
 use Rattle.channel.specs.Row.{activeCount, gainAt, sixOf}
@@ -121,7 +121,7 @@ module _ (mode : ℕ) (gains row : List ℕ) (x : List Float) (start end : ℕ) 
           go false e = refl
 
       pub pick-given : someTooLarge (sixOf x k) ≡ false → quantised h g y ≡ PickResult.Picked (picked h g y .0) (picked h g y .1)
-      unfolding quantised
+      unfolding quantisedUpTo
       pick-given fine =
           let s = six-long x k (omega arith) in
           let t : tooLarge y ≡ false = ap tooLarge (sym (component x k j few)) ∙ each-accepted (sixOf x k) nan j fine (omega arith) in

@@ -7,11 +7,11 @@ use mathlib.Core.Logic.{_↔_}
 use native.Mathlib.Omega.{arith}
 use lib.Ieee.{ofBits}
 use lib.ListN.{length}
-use Rattle.levels.specs.Component.{tooLarge}
+use Rattle.levels.specs.Component.{beyond}
 use Rattle.channel.specs.Bins.{someOver}
 use Rattle.channel.specs.Row.{unknownAt, rowCause}
 use Rattle.planner.specs.Choice.{Choice, choiceBits}
-use Rattle.planner.specs.Planning.{tooLargeAt, causeOf, planned, totalOf}
+use Rattle.planner.specs.Planning.{beyondAt, causeUpTo, planned, totalOf}
 use Rattle.planner.specs.declared.Plan.{Plan}
 use Rattle.planner.specs.declared.Planned.{Planned}
 use Rattle.writer.specs.Written.{fieldOf, channelWritten}
@@ -22,7 +22,7 @@ use Rattle.promise3.proofs.Points.{deskRow, deskVectors, deskPlan, read
 use Rattle.promise3.proofs.Promise.{equal-exactly, accepted, shows-plan, no-fewer, lower-has-more}
 
 pub desk-allowed : Allowed deskRow 0 2 deskVectors
-unfolding causeOf rowCause someOver unknownAt tooLargeAt tooLarge ofBits
+unfolding causeUpTo rowCause someOver unknownAt beyondAt beyond ofBits
 desk-allowed = allowed-exactly deskRow 0 2 deskVectors .1 refl
 
 -- the bytes of its field, and a call of the reader for them

@@ -12,12 +12,12 @@ use lib.Seq.{getD-take, getD-drop, ext-getD}
 use Rattle.tables.specs.Numbers.{mantBitsTable, gaqRemapTable}
 use Rattle.tables.specs.Tables.{mantBits, gaqRemapAt}
 use Rattle.gains.specs.Gains.{endbap, active, otherGains, allowedGain, wordBits, sections, gainWordBits}
-use Rattle.levels.specs.Component.{tooLarge, someTooLarge}
+use Rattle.levels.specs.Component.{beyond, someTooLarge}
 use Rattle.levels.specs.Value.{f1, q15, offsetAt, gaqRemap, divided}
 use Rattle.channel.specs.Bins.{sumOver, someOver}
 use Rattle.channel.specs.Row.{activeAt, activeCount, gainAt, sixOf}
 use Rattle.channel.specs.Field.{lenient}
-use Rattle.channel.proofs.Over.{sum-next, sum-none}
+use Rattle.channel.proofs.Over.{sum-next, sum-none, none-over}
 use Rattle.channel.proofs.Laws.{lenient-laws}
 use Rattle.channel.proofs.Most.{field-most}
 use Rattle.channel.proofs.Parts.{parts-ok}
@@ -34,7 +34,6 @@ use Rattle.reader.specs.Reading.{Call, answerTo}
 use Rattle.promise3.specs.Promise.{Allowed}
 use Rattle.promise3.proofs.Allowing.{allowed-exactly}
 use Rattle.promise3.proofs.Calls.{accepted-found, stands, ok, answer-bits}
-use Rattle.promise3.proofs.Places.{none-over}
 
 -- No field that the channel reader accepts has more bits either.
 pub accepted-most : (row : List ℕ) (start end : ℕ) (c : Call) → answerTo row start end c .refusal ≡ 0 → answerTo row start end c .bits ≤ 31152
@@ -105,7 +104,7 @@ unfolding planFits choiceFits
 widest-fits = rw (count-to 256 (omega arith), gains-right, widest-payload)
 
 pub widest-allowed : Allowed widestRow 0 256 widestVectors
-unfolding tooLarge ofBits
+unfolding beyond ofBits
 widest-allowed = record {
   ordered = omega arith;
   few = omega arith;

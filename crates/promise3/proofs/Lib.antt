@@ -15,3 +15,4 @@ pub mod AsPlan
 pub mod AsWritten
 pub mod Greatest
 pub mod Example
+pub mod Earlier

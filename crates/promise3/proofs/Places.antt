@@ -2,14 +2,10 @@
 use Prim.Native.Nat.{ℕ, zero, suc, _+_, _-_, _*_, _≤_, _<_}
 use mathlib.Core.Path.{_≡_, refl, sym, ap, _∙_}
 use mathlib.Core.List.{List, [], _∷_, _++_, map}
-use mathlib.Core.Bool.{Bool, true, false, cond, _||_}
 use native.Mathlib.Omega.{arith}
 use lib.ListN.{length, take, drop, getD, List·getD-append}
 use lib.Seq.{length-take-le, take-append-seam, getD-append-add}
-use lib.Dec.{leb}
-use borrow.Author.Tests.{leb-true}
 use Rattle.bits.specs.Bits.{splice}
-use Rattle.channel.specs.Bins.{someOver}
 use Rattle.channel.specs.Row.{noGains}
 
 -- ---- a list put into another
@@ -45,15 +41,6 @@ pub map-place : {A B : Type 0} (f : A → B) (l : List A) (j : ℕ) (d : B) (e :
 map-place f [] j d e u = absurd (omega arith)
 map-place f (x ∷ l) zero d e u = refl
 map-place f (x ∷ l) (suc j) d e u = map-place f l j d e (omega arith)
-
-pub none-over : (p : ℕ → Bool) (start end : ℕ) → ((k : ℕ) → start ≤ k → k < end → p k ≡ false) → someOver p start end ≡ false
-unfolding someOver
-none-over p start zero h = refl
-none-over p start (suc e) h = go (leb start e) refl (none-over p start e (λ k l u. h k l (omega arith)))
-  where
-    go : (t : Bool) → leb start e ≡ t → someOver p start e ≡ false → cond t (someOver p start e || p e) false ≡ false
-    go true q r = ap (λ (t : Bool). t || p e) r ∙ h e (leb-true start e q) (omega arith)
-    go false q r = refl
 
 -- ---- gains in 256 places: they and their count are the gains
 abbrev pub padded : List ℕ → List ℕ

@@ -19,8 +19,9 @@ use Rattle.levels.specs.Component.{someTooLarge}
 use Rattle.channel.specs.Bins.{someOver}
 use Rattle.channel.specs.Row.{activeCount, gainAt, sixOf, unknownAt}
 use Rattle.channel.proofs.Rows.{cause-4-or-0}
+use Rattle.channel.proofs.Over.{none-over}
 use Rattle.planner.specs.Choice.{planGains}
-use Rattle.planner.specs.Planning.{tooLargeAt, planOf, planned, totalOf, gainsOf}
+use Rattle.planner.specs.Planning.{tooLargeAt, beyondAt, planOf, planned, totalOf, gainsOf}
 use Rattle.planner.specs.Work.{Within}
 use Rattle.planner.specs.declared.Plan.{Plan}
 use Rattle.planner.proofs.Answer.{answer-given, answer-plan}
@@ -30,7 +31,7 @@ use Rattle.writer.proofs.Channel.{channel-read}
 use Rattle.writer.proofs.Planned.{choice, bits, field-long, is-written}
 use Rattle.reader.specs.Reading.{call, readCause, found}
 use Rattle.promise3.specs.Promise.{Allowed, LongEnough}
-use Rattle.promise3.proofs.Places.{none-over, padded, padded-gains}
+use Rattle.promise3.proofs.Places.{padded, padded-gains}
 
 module _ (row : List ℕ) (start end : ℕ) (x : List Float) (a : Allowed row start end x) where
   abbrev p : Plan
@@ -42,7 +43,7 @@ module _ (row : List ℕ) (start end : ℕ) (x : List Float) (a : Allowed row st
   known = none-over (unknownAt row) start end (λ k l u. le-ltb 19 (getD row k 0) (a .known k l u))
 
   inside : someOver (tooLargeAt row x) start end ≡ false
-  unfolding tooLargeAt
+  unfolding beyondAt
   inside = none-over (tooLargeAt row x) start end (λ k l u. go k l u (eqb (getD row k 0) 0) refl)
     where
       go : (k : ℕ) → start ≤ k → k < end → (t : Bool) → eqb (getD row k 0) 0 ≡ t → not t && someTooLarge (sixOf x k) ≡ false

@@ -4,10 +4,10 @@ use Prim.Native.Nat.{ℕ, zero, suc, _+_, _-_, _*_, _/_, _≤_, _<_}
 use native.Mathlib.Nat.{le-refl, le-trans, le-of-eq}
 use native.Mathlib.Omega.{arith}
 use mathlib.Core.Bool.{Bool, true, false, cond, _||_}
-use mathlib.Core.List.{List, [], _∷_}
+use mathlib.Core.List.{List, [], _∷_, map}
 use mathlib.Core.Path.{_≡_, refl, sym, ap, _∙_}
 use borrow.Author.Tests.{ne-eqb, le-ltb}
-use lib.Dec.{eqb}
+use lib.Dec.{eqb, leb}
 use lib.Signed.{ltZ}
 use lib.IntN.{ℤ, pos, negsuc, negℤ, _-ℤ_}
 use lib.ListN.{length, getD, take, replicate}
@@ -21,7 +21,7 @@ use Rattle.tables.specs.Tables.{mantBits, gaqRemapAt, hebapFromAddress}
 use Rattle.answers.specs.declared.ByteResult.the-variants.{Value}
 use Rattle.levels.specs.declared.Code.{Code}
 use Rattle.levels.specs.Codes.{tagged, coded}
-use Rattle.levels.specs.Component.{tooLarge}
+use Rattle.levels.specs.Component.{largestSize, beyond, tooLarge, someTooLarge}
 use Rattle.levels.specs.Exact.{exactOf}
 use Rattle.levels.specs.Value.{f0, q15, offsetAt, gaqRemap, divided}
 use Rattle.gains.specs.Gains.{endbap, active, codingOf, otherGains, gainValue, wordBits, sections, gainWordBits, wordCodes, codesFrom, wordsRead, wordsEnd, gainCodes, allowedGain, readGaqGains, gainsAfter}
@@ -32,18 +32,19 @@ use Rattle.channel.specs.Field.{groupWords, gainWords, binOf, binAt}
 use Rattle.channel.specs.Shown.{joined}
 use Rattle.channel.proofs.Over.{sum-none}
 use Rattle.quantiser.specs.Round.{roundMag, roundAway}
-use Rattle.quantiser.specs.Quantise.{absF, valueAt, probed, bestOf, estOne, bestOne, slopeAt, estLarge, bestLarge, smallOf, oneCode, largeCode, taggedCode, picked, codesBits, allowed, quantised, pickedNumber}
-use Rattle.books.specs.Books.{hasBook, vqSearch}
+use Rattle.quantiser.specs.Quantise.{absF, valueAt, probed, bestOf, estOne, bestOne, slopeAt, estLarge, bestLarge, smallOf, oneCode, largeCode, taggedCode, picked, codesBits, binPicked, noBin, allowed, quantised, quantisedUpTo, quantisedBin, quantisedBinUpTo, pickedNumber}
+use Rattle.books.specs.Books.{hasBook, searchOf, vqSearch, vqSearchUpTo}
 use Rattle.quantiser.specs.declared.PickResult.{PickResult}
 use Rattle.planner.specs.Cost.{binBits}
 use Rattle.planner.specs.Choice.{cheapest, leastUpTo, chosenAt, payloadOf, choiceBits, Choice, bestGain, leastAt, leastOf, planMode, gainsOver, planGains, planPayload}
-use Rattle.planner.specs.Planning.{tooLargeAt, refusalOf, planOf, totalOf, causeOf, planned}
+use Rattle.planner.specs.Planning.{beyondAt, planOf, totalOf, causeOf, causeUpTo, planned, plannedUpTo}
 use Rattle.planner.specs.declared.Plan.{Plan}
 use Rattle.planner.specs.Fit.{wrongGain, choiceFits, planFits}
-use Rattle.planner.proofs.Answer.{answer-plan}
+use Rattle.planner.proofs.Answer.{answer-plan, refusal-is}
 use Rattle.planner.proofs.Optimal.{least-same, gains-none, least-mode}
-use Rattle.writer.specs.Written.{fieldOf, writeCause, channelWritten}
+use Rattle.writer.specs.Written.{fieldOf, writeNumber, writeCauseUpTo, channelWrite, channelWritten, channelWrittenUpTo}
 use Rattle.writer.proofs.Planned.{is-written}
+use Rattle.writer.proofs.Wider.{write-number}
 use Rattle.reader.specs.Reading.{Call, call, readCause, found, answerTo, exactAfter}
 use Rattle.promise3.specs.Promise.{Allowed}
 use Rattle.promise3.proofs.Places.{empty}
@@ -70,11 +71,12 @@ Escapes (PickResult.Refused n) = ⊥
 abbrev pub f32 : ℕ → Float
 f32 bits = ofBits binary32 bits
 
-abbrev pub f1024 : Float
-f1024 = f32 0x4480_0000
+-- 16384 and -16384; the next f32 above each in size, the infinities and the NaN
+abbrev pub largest : List Float
+largest = f32 0x4680_0000 ∷ f32 0xc680_0000 ∷ []
 
-abbrev pub above1024 : Float
-above1024 = f32 0x4480_0001
+abbrev pub tooLargeOnes : List Float
+tooLargeOnes = f32 0x4680_0001 ∷ f32 0xc680_0001 ∷ f32 0x7f80_0000 ∷ f32 0xff80_0000 ∷ f32 0x7fc0_0000 ∷ []
 
 -- a call of the reader over bytes, from their first bit on, with outputs for n bins
 abbrev pub reading : List ℕ → ℕ → Call
@@ -136,10 +138,16 @@ pub record Points : Type 0 where
       × (planned deskRow 0 2 deskVectors ≡ record { refusal = 0; plan = deskPlan })
       × (totalOf deskPlan ≡ 15)
       × (channelWritten deskPlan deskRow 0 2 deskVectors (0 ∷ 0 ∷ []) 0 ≡ 0x69 ∷ 0x80 ∷ [])
-  -- 1024 is accepted, the next f32 above is not: by the quantiser, the search and the planner
-  pub p12 : ((h g : ℕ) → allowed h g ≡ true → (pickedNumber (quantised h g f1024) ≡ 0) × (quantised h g above1024 ≡ PickResult.Refused 5))
-      × ((h : ℕ) → hasBook h ≡ true → (sizeNumber (vqSearch h (replicate 6 f1024)) ≡ 0) × (vqSearch h (replicate 6 above1024) ≡ SizeResult.Refused 5))
-      × ((h : ℕ) → 1 ≤ h → h ≤ 19 → (planned (h ∷ []) 0 1 (replicate 6 f1024) .refusal ≡ 0) × (planned (h ∷ []) 0 1 (replicate 6 above1024) .refusal ≡ 5))
+  -- a component of 16384 is accepted, the next f32 above is not: in either sign, and no infinity or NaN is
+  pub p12 : (map tooLarge largest ≡ false ∷ false ∷ []) × (map tooLarge tooLargeOnes ≡ true ∷ true ∷ true ∷ true ∷ true ∷ [])
+      × ((h g : ℕ) (x : Float) → allowed h g ≡ true → pickedNumber (quantised h g x) ≡ cond (tooLarge x) 5 0)
+  -- whichever of the six it is, and by each call: the bin, the search, the planner, and the writer before 6 and 7
+  pub p12-any : (a b c d e f : Float) → let six = a ∷ b ∷ c ∷ d ∷ e ∷ f ∷ [] in
+      ((h g : ℕ) → allowed h g ≡ true → quantisedBin h g six .refusal ≡ cond (someTooLarge six) 5 0)
+      × ((h : ℕ) → hasBook h ≡ true → sizeNumber (vqSearch h six) ≡ cond (someTooLarge six) 5 0)
+      × ((h : ℕ) → 1 ≤ h → h ≤ 19 → (planned (h ∷ []) 0 1 six .refusal ≡ cond (someTooLarge six) 5 0)
+      × ((p : Plan) (out : List ℕ) (at : ℕ) → writeNumber (channelWrite p (h ∷ []) 0 1 six out at)
+      ≡ cond (someTooLarge six) 5 (cond (planFits p (h ∷ []) 0 1 six) (cond (leb (at + totalOf p) (8 * length out)) 0 7) 6)))
 
 -- ---- P1: no bins cost nothing in any mode, so the lowest mode is taken
 no-words : (mode : ℕ) → gainWordBits mode 0 ≡ 0
@@ -202,24 +210,57 @@ one-gain mode g row end m n a = record { mode-is = m; one-each = n; allowed = on
 no-gain : (mode : ℕ) (row : List ℕ) (end : ℕ) → mode ≤ 3 → 0 ≡ activeCount mode row 0 end → Choice mode [] row 0 end
 no-gain mode row end m n = record { mode-is = m; one-each = n; allowed = λ i u. absurd (omega arith) }
 
--- ---- P12: the cause of a channel of one bin
-module _ (h : ℕ) (low : 1 ≤ h) (high : h ≤ 19) where
-  fine-1024 : planned (h ∷ []) 0 1 (replicate 6 f1024) .refusal ≡ 0
-  unfolding planned causeOf rowCause someOver unknownAt tooLargeAt tooLarge ofBits
-  fine-1024 = rw (le-ltb 19 h high, ne-eqb h 0 (λ z. omega arith))
+-- ---- P12
+scalar-number : (h g : ℕ) (x : Float) → allowed h g ≡ true → pickedNumber (quantised h g x) ≡ cond (tooLarge x) 5 0
+unfolding quantisedUpTo
+scalar-number h g x k = rw k (go (tooLarge x))
+  where
+    go : (t : Bool) → pickedNumber (cond t (PickResult.Refused 5) (PickResult.Picked (picked h g x .0) (picked h g x .1))) ≡ cond t 5 0
+    go true = refl
+    go false = refl
 
-  above-refused : planned (h ∷ []) 0 1 (replicate 6 above1024) .refusal ≡ 5
-  unfolding planned causeOf rowCause someOver unknownAt tooLargeAt tooLarge ofBits refusalOf
-  above-refused = rw (le-ltb 19 h high, ne-eqb h 0 (λ z. omega arith))
+bin-number : (h g : ℕ) (x : List Float) → allowed h g ≡ true → quantisedBin h g x .refusal ≡ cond (someTooLarge x) 5 0
+unfolding quantisedBinUpTo binPicked
+bin-number h g x k = rw k (go (someTooLarge x))
+  where
+    go : (t : Bool) → cond t (noBin 5) (binPicked h g x) .refusal ≡ cond t 5 0
+    go true = refl
+    go false = refl
+
+search-number : (h : ℕ) (x : List Float) → hasBook h ≡ true → sizeNumber (vqSearch h x) ≡ cond (someTooLarge x) 5 0
+unfolding vqSearchUpTo
+search-number h x k = rw k (go (someTooLarge x))
+  where
+    go : (t : Bool) → sizeNumber (cond t (SizeResult.Refused 5) (SizeResult.Value (searchOf h x))) ≡ cond t 5 0
+    go true = refl
+    go false = refl
+
+-- the causes of a channel of one bin
+module _ (h : ℕ) (low : 1 ≤ h) (high : h ≤ 19) (a b c d e f : Float) where
+  abbrev six : List Float
+  six = a ∷ b ∷ c ∷ d ∷ e ∷ f ∷ []
+
+  one-cause : causeOf (h ∷ []) 0 1 six ≡ cond (someTooLarge six) 5 0
+  unfolding causeUpTo rowCause someOver unknownAt beyondAt
+  one-cause = rw (le-ltb 19 h high, ne-eqb h 0 (λ z. omega arith))
+
+  one-written : (p : Plan) (out : List ℕ) (at : ℕ) → writeNumber (channelWrite p (h ∷ []) 0 1 six out at)
+      ≡ cond (someTooLarge six) 5 (cond (planFits p (h ∷ []) 0 1 six) (cond (leb (at + totalOf p) (8 * length out)) 0 7) 6)
+  unfolding writeCauseUpTo
+  one-written p out at = write-number p (h ∷ []) 0 1 six out at largestSize ∙ rw one-cause (go (someTooLarge six) _)
+    where
+      go : (t : Bool) (n : ℕ) → cond (eqb (cond t 5 0) 0) n (cond t 5 0) ≡ cond t 5 n
+      go true n = refl
+      go false n = refl
 
 -- ---- the rest compute
 pub points : Points
 unfolding sub mul div le ofInt ofBits isNan bitsN numberOf bitsOf number each-enc hebaptab mantBitsTable gaqRemapTable mantBits gaqRemapAt hebapFromAddress
-    tagged coded tooLarge exactOf q15 offsetAt gaqRemap divided endbap active codingOf otherGains gainValue wordBits sections gainWordBits wordCodes
+    tagged coded beyond exactOf q15 offsetAt gaqRemap divided endbap active codingOf otherGains gainValue wordBits sections gainWordBits wordCodes
     codesFrom wordsRead wordsEnd gainCodes gainsAfter groupWords gainWords binOf binAt gainAt from roundMag roundAway absF valueAt probed bestOf estOne
-    bestOne slopeAt estLarge bestLarge smallOf oneCode largeCode taggedCode picked quantised sumOver someOver binBits codesBits cheapest leastUpTo
-    activeAt activeCount bestGain leastAt leastOf planMode gainsOver planGains planPayload noGains unknownAt tooLargeAt planOf causeOf planned rowCause
-    readCause found allowedGain readGaqGains chosenAt payloadOf choiceBits writeCause channelWritten bytesWith bytesOf splice wrongGain choiceFits planFits vqSearch
+    bestOne slopeAt estLarge bestLarge smallOf oneCode largeCode taggedCode picked quantisedUpTo sumOver someOver binBits codesBits cheapest leastUpTo
+    activeAt activeCount bestGain leastAt leastOf planMode gainsOver planGains planPayload noGains unknownAt beyondAt planOf causeUpTo plannedUpTo rowCause
+    readCause found allowedGain readGaqGains chosenAt payloadOf choiceBits writeCauseUpTo channelWrittenUpTo bytesWith bytesOf splice wrongGain choiceFits planFits vqSearchUpTo
     each-dec joined
 points = record {
   p1 = p1-answers;
@@ -242,7 +283,13 @@ points = record {
     refl,
     refl,
   );
-  p12 = (λ h g a. (rw a, rw a), λ h b. (rw b, rw b), λ h l u. (fine-1024 h l u, above-refused h l u));
+  p12 = (refl, refl, scalar-number);
+  p12-any = λ a b c d e f.
+      let six = a ∷ b ∷ c ∷ d ∷ e ∷ f ∷ [] in (
+        λ h g k. bin-number h g six k,
+        λ h k. search-number h six k,
+        λ h l u. (refusal-is (h ∷ []) 0 1 six ∙ one-cause h l u a b c d e f, one-written h l u a b c d e f),
+      );
 }
   where
     desk-least : (mode : ℕ) → mode ≤ 3 → leastOf deskRow deskVectors 0 2 mode ≡ getD (18 ∷ 13 ∷ 13 ∷ 17 ∷ []) mode 0

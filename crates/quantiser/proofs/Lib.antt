@@ -8,3 +8,5 @@ pub mod Bounds
 pub mod Bins
 pub mod Facts
 pub mod Found
+pub mod Estimates
+pub mod Wider

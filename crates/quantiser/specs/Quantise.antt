@@ -12,7 +12,7 @@ use Rattle.tables.specs.Tables.{mantBits}
 use Rattle.levels.specs.declared.Code.{Code}
 use Rattle.levels.specs.declared.Level.{Level}
 use Rattle.levels.specs.Codes.{largeOf, codeOf, smallBits, largeBits, codeBits}
-use Rattle.levels.specs.Component.{tooLarge, someTooLarge}
+use Rattle.levels.specs.Component.{beyond, someBeyond, largestSize}
 use Rattle.levels.specs.Value.{f0, f1, power, gaqRemap, divided, valueIn}
 use Rattle.quantiser.specs.Round.{roundAway}
 use Rattle.quantiser.specs.declared.Best.{Best}
@@ -81,11 +81,15 @@ bestOne h n x = bestOf h 1 n (negℤ (pos (2 ^ n - 1))) (pos (2 ^ n - 1)) x (pos
 unfoldable pub slopeAt : ℕ → ℕ → ℕ → Float
 slopeAt h g n = maxF (sub binary32 (valueAt h g n (minZ (pos 1) (pos (2 ^ n - 1)))) (valueAt h g n (pos 0))) f1e-9
 
+-- how many steps x lies from the level k
+abbrev pub stepsFrom : ℕ → ℕ → ℕ → ℤ → Float → ℤ
+stepsFrom h g n k x = roundAway (div binary32 (sub binary32 x (valueAt h g n k)) (slopeAt h g n))
+
 unfoldable pub estLarge : ℕ → ℕ → ℕ → Float → ℤ
 estLarge h g n x =
     cond (le f0 x)
-    (clampZ (pos 0) (pos (2 ^ n - 1)) (roundAway (div binary32 (sub binary32 x (valueAt h g n (pos 0))) (slopeAt h g n))))
-    (clampZ (negℤ (pos (2 ^ n))) (negsuc 0) (negsuc 0 +ℤ roundAway (div binary32 (sub binary32 x (valueAt h g n (negsuc 0))) (slopeAt h g n))))
+    (clampZ (pos 0) (pos (2 ^ n - 1)) (stepsFrom h g n (pos 0) x))
+    (clampZ (negℤ (pos (2 ^ n))) (negsuc 0) (negsuc 0 +ℤ stepsFrom h g n (negsuc 0) x))
 
 unfoldable pub bestLarge : ℕ → ℕ → ℕ → Float → ℤ
 bestLarge h g n x = bestOf h g n (negℤ (pos (2 ^ n))) (pos (2 ^ n - 1)) x (estLarge h g n x) (estLarge h g n x)
@@ -133,11 +137,15 @@ codeLevel p = record { code = p .0; level = p .1 }
 abbrev pub allowed : ℕ → ℕ → Bool
 allowed h g = leb 8 h && leb h 19 && (eqb g 1 || leb h 16 && (eqb g 2 || eqb g 4))
 
-unfoldable pub quantised : ℕ → ℕ → Float → PickResult
-quantised h g x =
+-- where components up to a limit are accepted
+unfoldable pub quantisedUpTo : ℕ → ℕ → ℕ → Float → PickResult
+quantisedUpTo limit h g x =
     cond (allowed h g)
-    (cond (tooLarge x) (PickResult.Refused cause.component) (PickResult.Picked (picked h g x .0) (picked h g x .1)))
+    (cond (beyond limit x) (PickResult.Refused cause.component) (PickResult.Picked (picked h g x .0) (picked h g x .1)))
     (PickResult.Refused cause.noQuantiser)
+
+abbrev pub quantised : ℕ → ℕ → Float → PickResult
+quantised = quantisedUpTo largestSize
 
 -- its number, the kind and the bits of the code, and its f32; what stood there before where it refuses
 abbrev pub pickedNumber : PickResult → ℕ
@@ -177,5 +185,9 @@ binPicked h g xs = record { refusal = 0; values = binValues h g xs; bits = codes
 abbrev pub noBin : ℕ → QuantisedBin
 noBin n = record { refusal = n; values = replicate 6 f0; bits = 0; err = f0 }
 
-unfoldable pub quantisedBin : ℕ → ℕ → List Float → QuantisedBin
-quantisedBin h g xs = cond (allowed h g) (cond (someTooLarge xs) (noBin cause.component) (binPicked h g xs)) (noBin cause.noQuantiser)
+unfoldable pub quantisedBinUpTo : ℕ → ℕ → ℕ → List Float → QuantisedBin
+quantisedBinUpTo limit h g xs =
+    cond (allowed h g) (cond (someBeyond limit xs) (noBin cause.component) (binPicked h g xs)) (noBin cause.noQuantiser)
+
+abbrev pub quantisedBin : ℕ → ℕ → List Float → QuantisedBin
+quantisedBin = quantisedBinUpTo largestSize

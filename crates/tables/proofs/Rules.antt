@@ -6,11 +6,11 @@ use mathlib.Core.Logic.{_⊎_, inl, inr}
 use native.Mathlib.Omega.{arith}
 use lib.Dec.{T, eqb, leb, ltb, eqb→eq, leb→le, ltb→lt}
 use lib.IntN.{ℤ, pos}
-use lib.ListN.{length, List·getD-eq-default}
+use lib.ListN.{length, getD, List·getD-eq-default}
 use lib.Signed.{mag}
 use Rattle.tables.specs.Numbers.{mantBitsTable, vqBitsTable, gaqRemapTable, vqHebap1, vqHebap2, vqHebap3, vqHebap4, vqHebap5, vqHebap6, vqHebap7}
 use Rattle.tables.specs.Tables.{mantBits, vqBits, gaqRemapAt, book}
-use Rattle.tables.proofs.Tests.{and-parts, every-at, each-at}
+use Rattle.tables.proofs.Tests.{and-parts, every-at, each, each-at}
 
 abbrev between : ℕ → ℕ → ℕ → Bool
 between a b n = leb a n && leb n b
@@ -64,3 +64,9 @@ unfolding book vqBits vqBitsTable vqHebap1 vqHebap2 vqHebap3 vqHebap4 vqHebap5 v
 book-size h l u =
     eqb→eq (length (book h)) (6 * 2 ^ vqBits h)
     (every-at (λ k. eqb (length (book k)) (6 * 2 ^ vqBits k)) 7 1 h tt l (omega arith))
+
+pub book-fits : (h i : ℕ) → 1 ≤ h → h ≤ 7 → mag (getD (book h) i (pos 0)) < 2 ^ 15
+unfolding book vqHebap1 vqHebap2 vqHebap3 vqHebap4 vqHebap5 vqHebap6 vqHebap7
+book-fits h i l u =
+    ltb→lt (mag (getD (book h) i (pos 0))) (2 ^ 15)
+    (each-at fits (book h) (every-at (λ k. each fits (book k)) 7 1 h tt l (omega arith)) (pos 0) tt i)

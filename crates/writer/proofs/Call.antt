@@ -23,7 +23,7 @@ use Rattle.planner.specs.Fit.{choiceFits, planFits}
 use Rattle.planner.proofs.Chosen.{fits-choice}
 use Rattle.writer.specs.declared.ChannelWrite.{ChannelWrite}
 use Rattle.writer.specs.declared.ChannelWrite.the-variants.{Done}
-use Rattle.writer.specs.Written.{writtenOf, fieldOf, writeCause, channelWrite, channelWritten}
+use Rattle.writer.specs.Written.{writtenOf, fieldOf, writeCause, writeCauseUpTo, channelWrite, channelWriteUpTo, channelWritten, channelWrittenUpTo}
 use Rattle.writer.specs.Work.{Room, Puts, binsEnc, gainsEnc}
 use Rattle.writer.proofs.Turns.{place-is, puts-long, puts-bit, puts-both}
 
@@ -100,26 +100,26 @@ module _ (p : Plan) (row : List ℕ) (start end : ℕ) (x : List Float) (out : L
   Answers r e = (r ≡ channelWrite p row start end x out at) × (e ≡ channelWritten p row start end x out at)
 
   refused-with : (k : ℕ) → writeCause p row start end x (8 * length out) at ≡ k → (k ≡ 0 → ⊥) → Answers (ChannelWrite.Refused k) out
-  unfolding channelWrite channelWritten
+  unfolding channelWriteUpTo channelWrittenUpTo
   refused-with k e n = rw (e, ne-eqb k 0 n) (refl, refl)
 
   pub call-cause : (k : ℕ) → k ≡ causeOf row start end x → (k ≡ 0 → ⊥) → Answers (ChannelWrite.Refused k) out
-  unfolding writeCause
+  unfolding writeCauseUpTo
   call-cause k e n = refused-with k (rw (sym e, ne-eqb k 0 n)) n
 
   module _ (none : causeOf row start end x ≡ 0) where
     pub call-unfit : planFits p row start end x ≡ false → Answers (ChannelWrite.Refused 6) out
-    unfolding writeCause
+    unfolding writeCauseUpTo
     call-unfit f = refused-with 6 (rw (none, f)) (λ e. omega arith)
 
     module _ (fits : planFits p row start end x ≡ true) where
       pub call-short : 8 * length out < at + totalOf p → Answers (ChannelWrite.Refused 7) out
-      unfolding writeCause
+      unfolding writeCauseUpTo
       call-short h = refused-with 7 (rw (none, fits, lt-leb (at + totalOf p) (8 * length out) h)) (λ e. omega arith)
 
       pub call-good : at + totalOf p ≤ 8 * length out → (q r : BitPos) (e : List ℕ) → bitAt q ≡ at → length (fieldOf p row start end x) ≡ totalOf p → Puts (fieldOf p row start end x) q r out e
           → Answers (Done r) e
-      unfolding writeCause channelWrite channelWritten
+      unfolding writeCauseUpTo channelWriteUpTo channelWrittenUpTo
       call-good h q r e i l w =
           let n : bitAt q + length (fieldOf p row start end x) ≡ at + totalOf p = omega arith in
           rw (none, fits, le-leb (at + totalOf p) (8 * length out) h) (ap Done (w .place ∙ ap posOf n), w .bytes ∙ ap (λ (k : ℕ). bytesWith out k (fieldOf p row start end x)) i)

@@ -33,7 +33,7 @@ use Rattle.channel.proofs.Same.{by-bin}
 use Rattle.channel.proofs.Most.{bins-long, field-bits}
 use Rattle.planner.specs.Cost.{binBits}
 use Rattle.planner.specs.Choice.{chosenAt, payloadOf, choiceBits, Choice}
-use Rattle.planner.specs.Planning.{tooLargeAt}
+use Rattle.planner.specs.Planning.{tooLargeAt, beyondAt}
 use Rattle.planner.specs.Work.{Within}
 use Rattle.writer.specs.Written.{codesOf, itemOf, writtenAt, writtenOf}
 use Rattle.writer.specs.Work.{binEnc}
@@ -81,7 +81,7 @@ pub part-six : (x : List Float) (k : ℕ) → take (6 * k + 6 - 6 * k) (drop (6 
 part-six x k = let e : 6 * k + 6 - 6 * k ≡ 6 = omega arith in ap (λ (n : ℕ). take n (drop (6 * k) x)) e
 
 pub six-fine : (row : List ℕ) (x : List Float) (k : ℕ) → tooLargeAt row x k ≡ false → 1 ≤ getD row k 0 → someTooLarge (sixOf x k) ≡ false
-unfolding tooLargeAt
+unfolding beyondAt
 six-fine row x k o p = rw (ne-eqb (getD row k 0) 0 (λ e. omega arith)) at o
 
 -- ---- the field of a choice, for bins within the row and its vectors and components that are accepted

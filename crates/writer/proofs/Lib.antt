@@ -4,3 +4,4 @@ pub mod Allowed
 pub mod Channel
 pub mod Call
 pub mod Planned
+pub mod Wider

@@ -25,7 +25,7 @@ use Rattle.planner.specs.Fit.{planFits}
 use Rattle.planner.specs.declared.Plan.{Plan}
 use Rattle.planner.proofs.Answer.{cause-none, refusal-is, answer-fits, answer-choice}
 use Rattle.writer.specs.declared.ChannelWrite.the-variants.{Done}
-use Rattle.writer.specs.Written.{writtenOf, fieldOf, writeCause, channelWrite, channelWritten}
+use Rattle.writer.specs.Written.{writtenOf, fieldOf, writeCause, writeCauseUpTo, channelWrite, channelWritten, channelWrittenUpTo}
 use Rattle.writer.proofs.Channel.{channel-ok, channel-long}
 use Rattle.writer.proofs.Call.{count-few, fitting, call-good}
 
@@ -49,7 +49,7 @@ module _ (p : Plan) (row : List ℕ) (start end : ℕ) (x : List Float) (places 
 
   -- where something is written, no cause holds
   pub written-when : (n at : ℕ) → writeCause p row start end x n at ≡ 0 → (causeOf row start end x ≡ 0) × (planFits p row start end x ≡ true) × (at + totalOf p ≤ n)
-  unfolding writeCause
+  unfolding writeCauseUpTo
   written-when n at = go (eqb (causeOf row start end x) 0) refl (planFits p row start end x) refl (leb (at + totalOf p) n) refl
     where
       go : (c : Bool) → eqb (causeOf row start end x) 0 ≡ c → (f : Bool) → planFits p row start end x ≡ f → (l : Bool) → leb (at + totalOf p) n ≡ l
@@ -63,7 +63,7 @@ module _ (p : Plan) (row : List ℕ) (start end : ℕ) (x : List Float) (places 
   pub outside-kept : (out : List ℕ) (at : ℕ)
       → (take at (bitsOf (channelWritten p row start end x out at)) ≡ take at (bitsOf out))
       × (drop (at + totalOf p) (bitsOf (channelWritten p row start end x out at)) ≡ drop (at + totalOf p) (bitsOf out))
-  unfolding channelWritten
+  unfolding channelWrittenUpTo
   outside-kept out at = go (eqb (writeCause p row start end x (8 * length out) at) 0) refl
     where
       go : (t : Bool) → eqb (writeCause p row start end x (8 * length out) at) 0 ≡ t → let after = cond t (bytesWith out at (fieldOf p row start end x)) out in

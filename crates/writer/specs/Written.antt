@@ -16,7 +16,8 @@ use Rattle.channel.specs.Field.{Bin, none, book, scalar, Item, nothing, index, 
 use Rattle.books.specs.Books.{searchOf}
 use Rattle.quantiser.specs.Quantise.{picked}
 use Rattle.planner.specs.declared.Plan.{Plan}
-use Rattle.planner.specs.Planning.{causeOf, totalOf, gainsOf}
+use Rattle.levels.specs.Component.{largestSize}
+use Rattle.planner.specs.Planning.{causeUpTo, totalOf, gainsOf}
 use Rattle.planner.specs.Fit.{planFits}
 use Rattle.writer.specs.declared.ChannelWrite.{ChannelWrite}
 use Rattle.writer.specs.declared.ChannelWrite.the-variants.{Done}
@@ -44,18 +45,18 @@ abbrev pub fieldOf : Plan → List ℕ → ℕ → ℕ → List Float → List B
 fieldOf p row start end x = field row start end .enc (writtenOf (p .mode) (gainsOf p) row x start end)
 
 -- causes 1 to 7 for the position at of n bits: the lowest that holds, 0 where none does
-unfoldable pub writeCause : Plan → List ℕ → ℕ → ℕ → List Float → ℕ → ℕ → ℕ
-writeCause p row start end x n at =
-    cond (eqb (causeOf row start end x) 0)
+unfoldable pub writeCauseUpTo : ℕ → Plan → List ℕ → ℕ → ℕ → List Float → ℕ → ℕ → ℕ
+writeCauseUpTo limit p row start end x n at =
+    cond (eqb (causeUpTo limit row start end x) 0)
     (cond (planFits p row start end x) (cond (leb (at + totalOf p) n) cause.none cause.outputFull) cause.planMisfit)
-    (causeOf row start end x)
+    (causeUpTo limit row start end x)
 
 -- the answer: the position behind the field, or the refusal
-unfoldable pub channelWrite : Plan → List ℕ → ℕ → ℕ → List Float → List ℕ → ℕ → ChannelWrite
-channelWrite p row start end x out at =
-    cond (eqb (writeCause p row start end x (8 * length out) at) 0)
+unfoldable pub channelWriteUpTo : ℕ → Plan → List ℕ → ℕ → ℕ → List Float → List ℕ → ℕ → ChannelWrite
+channelWriteUpTo limit p row start end x out at =
+    cond (eqb (writeCauseUpTo limit p row start end x (8 * length out) at) 0)
     (Done (posOf (at + totalOf p)))
-    (ChannelWrite.Refused (writeCause p row start end x (8 * length out) at))
+    (ChannelWrite.Refused (writeCauseUpTo limit p row start end x (8 * length out) at))
 
 -- its number, and the position; p is what stood there before where it refuses
 abbrev pub writeNumber : ChannelWrite → ℕ
@@ -67,6 +68,16 @@ writePlace p (ChannelWrite.Done q) = q
 writePlace p (ChannelWrite.Refused n) = p
 
 -- the output afterwards: with the field from the position on, or as it was
-unfoldable pub channelWritten : Plan → List ℕ → ℕ → ℕ → List Float → List ℕ → ℕ → List ℕ
-channelWritten p row start end x out at =
-    cond (eqb (writeCause p row start end x (8 * length out) at) 0) (bytesWith out at (fieldOf p row start end x)) out
+unfoldable pub channelWrittenUpTo : ℕ → Plan → List ℕ → ℕ → ℕ → List Float → List ℕ → ℕ → List ℕ
+channelWrittenUpTo limit p row start end x out at =
+    cond (eqb (writeCauseUpTo limit p row start end x (8 * length out) at) 0) (bytesWith out at (fieldOf p row start end x)) out
+
+-- at the limit that holds
+abbrev pub writeCause : Plan → List ℕ → ℕ → ℕ → List Float → ℕ → ℕ → ℕ
+writeCause = writeCauseUpTo largestSize
+
+abbrev pub channelWrite : Plan → List ℕ → ℕ → ℕ → List Float → List ℕ → ℕ → ChannelWrite
+channelWrite = channelWriteUpTo largestSize
+
+abbrev pub channelWritten : Plan → List ℕ → ℕ → ℕ → List Float → List ℕ → ℕ → List ℕ
+channelWritten = channelWrittenUpTo largestSize

@@ -1,7 +1,7 @@
 -- `books::vq_search` meets its contract. Assumes nothing.
 use mathlib.Core.Path.{sym, ap, _∙_}
 use Rattle.answers.specs.declared.SizeResult.the-variants.{Value}
-use Rattle.books.specs.Books.{vqSearch}
+use Rattle.books.specs.Books.{vqSearchUpTo}
 use Rattle.books.proofs.Laws.{HasBook, no-book, has-book}
 use borrow.Author.Needs.{needs}
 use Rattle.books.proofs.vq_search.Statement.{statement}
@@ -12,15 +12,15 @@ there : (c : tie.Else1) → let r = c .before in HasBook (r .before .args .hebap
 there c = let r = c .before in has-book (r .before .args .hebap) (r .vectors-in .result) (r .vectors-in .ensures) (c .if1 .left)
 
 returns : tie.Need-returns
-unfolding vqSearch
+unfolding vqSearchUpTo
 returns c = let r = c .before in rw (no-book (r .before .args .hebap) (r .vectors-in .result) (r .vectors-in .ensures) (c .if1 .taken))
 
 returns-2 : tie.Need-returns-2
-unfolding vqSearch
+unfolding vqSearchUpTo
 returns-2 c = let k = there (c .before .before .before) in rw (k .it-has, sym (c .before .any-too-large .ensures) ∙ c .if2 .taken)
 
 returns-3 : tie.Need-returns-3
-unfolding vqSearch
+unfolding vqSearchUpTo
 returns-3 c =
     let t = c .before .before .before in
     let k = there (t .before .before) in

@@ -4,7 +4,7 @@ use mathlib.Core.Path.{_∙_, sym}
 use borrow.Author.Needs.{needs}
 use borrow.Author.Tests.{not-true, not-false}
 use Rattle.levels.specs.Component.{tooLarge}
-use Rattle.quantiser.specs.Quantise.{quantised}
+use Rattle.quantiser.specs.Quantise.{quantisedUpTo}
 use Rattle.quantiser.proofs.Fixed.{steps-is, steps-names}
 use Rattle.quantiser.proofs.Ints.{allowed-range}
 use Rattle.quantiser.proofs.quantise_scalar.Statement.{statement}
@@ -26,7 +26,7 @@ pick-requires c κs =
     steps-is (a .hebap) (a .gk) _ (c .steps-of .ensures) (r .0) (r .1)
 
 returns : tie.Need-returns
-unfolding quantised
+unfolding quantisedUpTo
 returns c =
     let i = c .before .before in
     let d = i .before .before .before in
@@ -36,14 +36,14 @@ returns c =
     rw (e, sym (d .allows .ensures) ∙ i .before .before .if1 .taken, not-true (tooLarge (d .before .args .x)) (sym (r .ensures) ∙ i .if2 .taken))
 
 returns-2 : tie.Need-returns-2
-unfolding quantised
+unfolding quantisedUpTo
 returns-2 c =
     let d = c .before .before .before in
     let r = c .before .in-range in
     rw (sym (d .allows .ensures) ∙ c .before .before .if1 .taken, not-false (tooLarge (d .before .args .x)) (sym (r .ensures) ∙ c .if2 .left))
 
 returns-3 : tie.Need-returns-3
-unfolding quantised
+unfolding quantisedUpTo
 returns-3 c = rw (sym (c .before .allows .ensures) ∙ c .if1 .left)
 
 pub quantise-scalar-spec : {M : Type 1} → statement M
