@@ -44,7 +44,7 @@ extern "C" {
 /* ---- Version. */
 
 #define FATHRUGG_VERSION_MAJOR 0
-#define FATHRUGG_VERSION_MINOR 2
+#define FATHRUGG_VERSION_MINOR 3
 #define FATHRUGG_VERSION_PATCH 0
 #define FATHRUGG_VERSION (10000 * FATHRUGG_VERSION_MAJOR + 100 * FATHRUGG_VERSION_MINOR + FATHRUGG_VERSION_PATCH)
 
@@ -59,7 +59,7 @@ enum fathrugg_refusal {
     FATHRUGG_END_ABOVE_256 = 2,    /* end is above 256 */
     FATHRUGG_TOO_SHORT = 3,        /* the row, the vectors or an output is too short for the bins */
     FATHRUGG_HEBAP_ABOVE_19 = 4,   /* a hebap is above 19 */
-    FATHRUGG_COMPONENT = 5,        /* a vector's component is NaN, infinite or above 1024 in size */
+    FATHRUGG_COMPONENT = 5,        /* a vector's component is NaN, infinite or above 16384 in size */
     FATHRUGG_PLAN_MISFIT = 6,      /* the plan does not fit the row and the vectors */
     FATHRUGG_OUTPUT_FULL = 7,      /* the output has too few bits from the position on, or it is past its end */
     FATHRUGG_INPUT_ENDS = 8,       /* the input runs out, or the position is past its end */
@@ -79,7 +79,7 @@ static inline const char *fathrugg_refusal_text(unsigned number)
     case FATHRUGG_END_ABOVE_256: return "end is above 256";
     case FATHRUGG_TOO_SHORT: return "the row, the vectors or an output is too short for the bins";
     case FATHRUGG_HEBAP_ABOVE_19: return "a hebap is above 19";
-    case FATHRUGG_COMPONENT: return "a vector's component is NaN, infinite or above 1024 in size";
+    case FATHRUGG_COMPONENT: return "a vector's component is NaN, infinite or above 16384 in size";
     case FATHRUGG_PLAN_MISFIT: return "the plan does not fit the row and the vectors";
     case FATHRUGG_OUTPUT_FULL: return "the output has too few bits from the position on, or the position is past its end";
     case FATHRUGG_INPUT_ENDS: return "the input runs out, or the position is past its end";

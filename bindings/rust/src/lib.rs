@@ -153,7 +153,7 @@ pub enum Refusal {
     TooShort,
     /// 4: a hebap is above 19.
     HebapAbove19,
-    /// 5: a vector's component is NaN, infinite or above 1024 in size.
+    /// 5: a vector's component is NaN, infinite or above 16384 in size.
     ComponentTooLarge,
     /// 6: the plan does not fit the row and the vectors.
     PlanDoesNotFit,
@@ -217,7 +217,7 @@ impl fmt::Display for Refusal {
             Refusal::EndAbove256 => "end is above 256",
             Refusal::TooShort => "the row, the vectors or an output is too short for the bins",
             Refusal::HebapAbove19 => "a hebap is above 19",
-            Refusal::ComponentTooLarge => "a vector's component is NaN, infinite or above 1024 in size",
+            Refusal::ComponentTooLarge => "a vector's component is NaN, infinite or above 16384 in size",
             Refusal::PlanDoesNotFit => "the plan does not fit the row and the vectors",
             Refusal::OutputEnds => "the output has too few bits from the position on, or the position is past its end",
             Refusal::InputEnds => "the input runs out, or the position is past its end",

@@ -4,15 +4,14 @@ use mathlib.Core.Path.{_≡_, refl, sym, ap, _∙_, subst}
 use mathlib.Core.Bool.{Bool, true, false, cond, true≢false}
 use mathlib.Core.List.{List, [], _∷_}
 use mathlib.Core.Logic.{_⊎_, inl, inr}
-use native.Mathlib.Nat.{le-trans, le-of-eq, mul-le-mul-right, mul-pos, not-le-of-lt, lt-of-not-le, eq-or-lt-of-le, le-of-lt, le-antisymm, add-zero, add-suc, suc-add}
+use native.Mathlib.Nat.{mul-pos, not-le-of-lt, lt-of-not-le, eq-or-lt-of-le, le-of-lt, le-antisymm, add-zero, add-suc, suc-add}
 use native.Mathlib.Omega.{arith}
-use lib.Dec.{T, ltb, lit≤}
+use lib.Dec.{T, ltb, lit<, lit≤}
 use lib.IntN.{ℤ, pos, negsuc}
 use lib.Pow.{pow-add, pow-mono, pow-pos}
 use lib.Signed.{mag}
 use lib.ListN.{getD, length}
 use lib.Ieee.{Float, nan, inf, fin, Format, binary32, prec, emax, low, up, down, unlike, odd, units, round, sum, add, sub, mul, div, ofInt, ofBits, lt}
-use lib.Ieee.Exact.{HasValue}
 use lib.Ieee.Fits.{down-pos, round-is}
 use lib.Ieee.Positive.{through}
 use lib.Ieee.Scale.{finite}
@@ -23,7 +22,7 @@ use Rattle.tables.proofs.Tests.{lt-or-le}
 use Rattle.levels.specs.Component.{largestSize, beyond, tooLarge, someTooLarge}
 use Rattle.levels.specs.Value.{q15}
 use Rattle.levels.proofs.Range.{each-accepted}
-use Rattle.levels.proofs.Within.{AtMost, round-most, add-fraction, mul-fraction, sub-within}
+use Rattle.levels.proofs.Within.{AtMost, value-within, round-most, add-fraction, mul-fraction, sub-within}
 use Rattle.books.specs.Books.{termOf, sumTo, distanceOf, searchFrom, nearestIn, FirstLeast, searchOf, vqSearch, vqSearchUpTo}
 use Rattle.books.proofs.Quotients.{positive-exact, negative-exact}
 use Rattle.answers.specs.declared.SizeResult.the-variants.{Value}
@@ -67,17 +66,9 @@ entry-real z = quotient-real (ofInt binary32 z) (int-real z)
 
 -- ---- no distance is a NaN or infinite: each step of its sum has a bound
 -- a fraction of a book is 1 at most in size
-fraction-most : (x : Float) (s : Bool) (m : ℕ) → m ≤ 32768 → HasValue x s m 32768 → beyond 1 x ≡ false
-unfolding beyond
-fraction-most nan s m h v = absurd v
-fraction-most (inf t) s m h v = absurd v
-fraction-most (fin t n e) s m h v =
-    let l : n * up e * 32768 ≤ 32768 * down e = le-trans (le-of-eq (v .1)) (mul-le-mul-right (down e) h) in
-    le-ltb (1 * down e) (n * up e) (omega arith)
-
 entry-most : (z : ℤ) → mag z < 2 ^ 15 → beyond 1 (q15 z) ≡ false
-entry-most (pos n) h = fraction-most (q15 (pos n)) false n (omega arith) (positive-exact n (omega arith))
-entry-most (negsuc n) h = fraction-most (q15 (negsuc n)) true (suc n) (omega arith) (negative-exact n (omega arith))
+entry-most (pos n) h = value-within (q15 (pos n)) false n 32768 1 (lit< tt) (positive-exact n (omega arith)) (omega arith)
+entry-most (negsuc n) h = value-within (q15 (negsuc n)) true (suc n) 32768 1 (lit< tt) (negative-exact n (omega arith)) (omega arith)
 
 square-of : (m : ℕ) (e : ℤ) → m * up e ≤ 2 ^ 15 * down e → AtMost (2 ^ 30) (round binary32 false (m * up e * (m * up e)) (down e * down e))
 square-of m e h =

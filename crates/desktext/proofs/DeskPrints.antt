@@ -2,24 +2,31 @@
 -- answered with its channel's plan, and (refused 13) is printed exactly for texts of no channel. Assumes nothing.
 -- The theorems are about `deskAnswer`; `desk` and `desk_from` put it at the front of the output and answer its length
 -- (their contracts), and the last section says the same of these bytes.
-use Prim.Native.Nat.{ℕ, _≤_}
+use Prim.Native.Nat.{ℕ, _*_, _≤_}
 use mathlib.Core.Path.{_≡_, refl, sym, ap, _∙_}
+use mathlib.Core.Bool.{false, not, and-false, true≢false}
 use mathlib.Core.Logic.{_↔_}
 use mathlib.Core.List.{List, [], _∷_, map}
 use native.Mathlib.Omega.{arith}
 use lib.Ieee.{Float}
-use lib.ListN.{length, take}
+use lib.Dec.{eqb, lit≤}
+use lib.ListN.{length, getD, take}
 use borrow.Author.Tests.{ne-eqb}
+use Rattle.answers.specs.Causes as cause
 use Rattle.bits.specs.Bits.{splice}
 use Rattle.bits.proofs.Laws.{splice-read}
-use Rattle.planner.specs.Planning.{causeOf, planOf}
-use Rattle.planner.proofs.Answer.{planned-good, refusal-is}
+use Rattle.levels.specs.Component.{largestSize, someTooLarge}
+use Rattle.levels.proofs.Wider.{all-wider, some-part}
+use Rattle.channel.proofs.Over.{none-over}
+use Rattle.planner.specs.Planning.{beyondAt, tooLargeAt, causeOf, planOf}
+use Rattle.planner.proofs.Answer.{cause-five, planned-good, refusal-is}
 use Rattle.writer.specs.Written.{fieldOf}
 use Rattle.plantext.specs.PlanText.{planText, refusedText}
 use Rattle.plantext.proofs.Printing.{refused-text-fits, sampleText}
 use Rattle.desktext.specs.Printed.{IsText, componentOf}
 use Rattle.desktext.specs.Channel.{TextChannel, channel, none, channelIn}
 use Rattle.desktext.specs.Desk.{fieldBytes, planAnswer, channelAnswer, deskAnswer}
+use Rattle.desktext.proofs.Component.{components-most}
 use Rattle.desktext.proofs.Texts.{text-read}
 use Rattle.desktext.proofs.Answers.{plan-never-13, plan-fits}
 use Rattle.desktext.proofs.Examples.{exampleText, exampleVectors, example, example-planned}
@@ -42,6 +49,13 @@ module _ (a b : ℕ) (row vs s : List ℕ) (t : IsText a b row vs s) where
   pub desk-cause : (causeOf row a b x ≡ 0 → ⊥) → deskAnswer s ≡ refusedText (causeOf row a b x)
   unfolding planAnswer
   desk-cause n = desk-plans a b row vs s t ∙ rw (refusal-is row a b x, ne-eqb (causeOf row a b x) 0 n)
+
+  -- and 5 is never met: no number of a text is above 512 in size
+  pub desk-never-5 : causeOf row a b x ≡ cause.component → ⊥
+  unfolding beyondAt
+  desk-never-5 e =
+      let fine : someTooLarge x ≡ false = all-wider 512 largestSize (lit≤ tt) x (components-most vs (t .allowed .numbers)) in
+      true≢false (sym (cause-five row a b x e) ∙ none-over (tooLargeAt row x) a b (λ k l u. rw (some-part largestSize (6 * k) 6 x fine) (and-false (not (eqb (getD row k 0) 0)))))
 
 -- (refused 13) is printed exactly for texts of no channel
 pub desk-refuses : (s : List ℕ) → (deskAnswer s ≡ refusedText 13) ↔ ((a b : ℕ) (row vs : List ℕ) → IsText a b row vs s → ⊥)

@@ -7,10 +7,10 @@ mod channel_calls;
 mod quantiser_calls;
 mod row_calls;
 
-// The version, 10000 × major + 100 × minor + patch: 0.2.0, as include/fathrugg.h and bindings/rust have it.
+// The version, 10000 × major + 100 × minor + patch: 0.3.0, as include/fathrugg.h and bindings/rust have it.
 #[no_mangle]
 pub extern "C" fn fathrugg_version() -> u32
-    ensures { λ r. ⌜ r ≡ 200 ⌝ }
+    ensures { λ r. ⌜ r ≡ 300 ⌝ }
 {
-    200
+    300
 }

@@ -1,11 +1,12 @@
 -- What a wider limit changes. Assumes nothing.
-use Prim.Native.Nat.{ℕ, _*_, _≤_, _<_}
+use Prim.Native.Nat.{ℕ, zero, suc, _*_, _≤_, _<_}
 use mathlib.Core.Path.{_≡_, refl, sym, ap}
 use mathlib.Core.Bool.{Bool, true, false, cond, _||_, true≢false}
 use mathlib.Core.List.{List, [], _∷_}
 use mathlib.Core.Logic.{_⊎_}
 use native.Mathlib.Nat.{le-trans, mul-le-mul-right}
 use borrow.Author.Tests.{ltb-false, le-ltb}
+use lib.ListN.{take, drop}
 use lib.Ieee.{Float, nan, inf, fin, up, down}
 use Rattle.answers.specs.Causes as cause
 use Rattle.bits.proofs.Tests.{neither}
@@ -23,6 +24,17 @@ all-wider l l′ h [] f = refl
 all-wider l l′ h (y ∷ x) f =
     let p = neither (beyond l y) (someBeyond l x) f in
     rw (wider l l′ h y (p .0)) (all-wider l l′ h x (p .1))
+
+-- what holds of all components holds of those in a row among them
+front : (l n : ℕ) (x : List Float) → someBeyond l x ≡ false → someBeyond l (take n x) ≡ false
+front l zero x f = refl
+front l (suc n) [] f = refl
+front l (suc n) (y ∷ x) f = let p = neither (beyond l y) (someBeyond l x) f in rw (p .0) (front l n x (p .1))
+
+pub some-part : (l m n : ℕ) (x : List Float) → someBeyond l x ≡ false → someBeyond l (take n (drop m x)) ≡ false
+some-part l zero n x f = front l n x f
+some-part l (suc m) n [] f = front l n [] refl
+some-part l (suc m) n (y ∷ x) f = some-part l m n x (neither (beyond l y) (someBeyond l x) f .1)
 
 -- ---- an answer behind the test of the components, where a call makes it
 module _ {A : Type 0} (number : A → ℕ) (refused rest other : A) where

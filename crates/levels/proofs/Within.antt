@@ -79,34 +79,34 @@ module _ (s : Bool) (a c k : ℕ) (p : 0 < c) (h : k ≤ 127) (f : a ≤ 2 ^ k *
         most = most;
       }
 
--- as a number of at most 2 ^ k in size, and, with no sign, as one that is not negative either
+-- a number that is not negative and at most n
 abbrev pub AtMost : ℕ → Float → Type 0
 AtMost n nan = ⊥
 AtMost n (inf s) = ⊥
 AtMost n (fin true m e) = ⊥
 AtMost n (fin false m e) = m * up e ≤ n * down e
 
-fraction : (u d g n : ℕ) → u * 2 ^ 149 ≡ g * d → g ≤ n * 2 ^ 149 → u ≤ n * d
-fraction u d g n v f =
-    le-of-mul-le-mul-right (le-trans (le-of-eq v) (le-trans (mul-le-mul-right d f) (le-of-eq (mul-right-comm n (2 ^ 149) d)))) (pow-pos 149)
+fraction : (u d a c n : ℕ) → 0 < c → u * c ≡ a * d → a ≤ n * c → u ≤ n * d
+fraction u d a c n p v f = le-of-mul-le-mul-right (le-trans (le-of-eq v) (le-trans (mul-le-mul-right d f) (le-of-eq (mul-right-comm n c d)))) p
 
-size-of : (x : Float) (s : Bool) (k : ℕ) → Rounded x s k → beyond (2 ^ k) x ≡ false
+-- a number of the size a / c
+pub value-within : (x : Float) (s : Bool) (a c n : ℕ) → 0 < c → HasValue x s a c → a ≤ n * c → beyond n x ≡ false
 unfolding beyond
-size-of nan s k r = absurd (r .value)
-size-of (inf t) s k r = absurd (r .value)
-size-of (fin t m e) s k r = le-ltb (2 ^ k * down e) (m * up e) (fraction (m * up e) (down e) (r .parts) (2 ^ k) (r .value .1) (r .most))
+value-within nan s a c n p v f = absurd v
+value-within (inf t) s a c n p v f = absurd v
+value-within (fin t m e) s a c n p v f = le-ltb (n * down e) (m * up e) (fraction (m * up e) (down e) a c n p (v .1) f)
 
-most-of : (x : Float) (k : ℕ) → Rounded x false k → AtMost (2 ^ k) x
-most-of nan k r = absurd (r .value)
-most-of (inf t) k r = absurd (r .value)
-most-of (fin true m e) k r = absurd (true≢false (r .value .0))
-most-of (fin false m e) k r = fraction (m * up e) (down e) (r .parts) (2 ^ k) (r .value .1) (r .most)
+value-most : (x : Float) (a c n : ℕ) → 0 < c → HasValue x false a c → a ≤ n * c → AtMost n x
+value-most nan a c n p v f = absurd v
+value-most (inf t) a c n p v f = absurd v
+value-most (fin true m e) a c n p v f = absurd (true≢false (v .0))
+value-most (fin false m e) a c n p v f = fraction (m * up e) (down e) a c n p (v .1) f
 
 round-within : (s : Bool) (a c k : ℕ) → 0 < c → k ≤ 127 → a ≤ 2 ^ k * c → beyond (2 ^ k) (round binary32 s a c) ≡ false
-round-within s a c k p h f = size-of (round binary32 s a c) s k (rounded s a c k p h f)
+round-within s a c k p h f = let r = rounded s a c k p h f in value-within (round binary32 s a c) s (r .parts) (2 ^ 149) (2 ^ k) (pow-pos 149) (r .value) (r .most)
 
 pub round-most : (a c k : ℕ) → 0 < c → k ≤ 127 → a ≤ 2 ^ k * c → AtMost (2 ^ k) (round binary32 false a c)
-round-most a c k p h f = most-of (round binary32 false a c) k (rounded false a c k p h f)
+round-most a c k p h f = let r = rounded false a c k p h f in value-most (round binary32 false a c) (r .parts) (2 ^ 149) (2 ^ k) (pow-pos 149) (r .value) (r .most)
 
 -- ---- sums and products of numbers of at most n and p in size
 pub add-fraction : (u v d c n p k : ℕ) → u ≤ n * d → v ≤ p * c → n + p ≤ 2 ^ k → u * c + v * d ≤ 2 ^ k * (d * c)

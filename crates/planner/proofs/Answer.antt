@@ -9,6 +9,7 @@ use lib.Dec.{eqb, ltb}
 use lib.ListN.{length, getD, take, drop, length-append}
 use lib.Seq.{take-take}
 use lib.Ieee.{Float}
+use Rattle.answers.specs.Causes as cause
 use Rattle.levels.specs.Component.{someTooLarge}
 use Rattle.channel.specs.Bins.{someOver}
 use Rattle.channel.specs.Row.{noGains, sixOf, rowCause}
@@ -121,6 +122,19 @@ module _ (row : List ℕ) (start end : ℕ) (x : List Float) where
           of true true = omega arith
           of true false = omega arith
           of false t = omega arith
+
+  -- 5 is a component's
+  pub cause-five : causeOf row start end x ≡ cause.component → someOver (tooLargeAt row x) start end ≡ true
+  unfolding causeUpTo
+  cause-five = go (rowCause row start end (ltb (length x) (6 * end))) (row-cause-most row start end (ltb (length x) (6 * end))) (someOver (tooLargeAt row x) start end)
+    where
+      go : (k : ℕ) → k ≤ 4 → (t : Bool) → cond (eqb k 0) (cond t 5 0) k ≡ 5 → t ≡ true
+      go k h t = of (eqb k 0) t
+        where
+          of : (b t : Bool) → cond b (cond t 5 0) k ≡ 5 → t ≡ true
+          of b true e = refl
+          of true false e = absurd (omega arith)
+          of false false e = absurd (omega arith)
 
 -- ---- the answer
 pub number-is : (k : ℕ) (p : Plan) → cond (eqb k 0) (record { refusal = 0; plan = p }) (refusalOf k) .refusal ≡ k
