@@ -1,5 +1,5 @@
 -- Laws of what is gathered over the bins start to end - 1. Assumes nothing.
-use mathlib.Core.Path.{_≡_, refl, sym, ap, _∙_, subst}
+use mathlib.Core.Path.{_≡_, refl, sym, ap, _∙_}
 use mathlib.Core.Bool.{Bool, true, false, cond, true≢false, _||_}
 use Prim.Native.Nat.{ℕ, zero, suc, _+_, _-_, _*_, _≤_, _<_}
 use native.Mathlib.Nat.{le-of-lt, le-of-eq, le-trans, le-antisymm, le-of-suc-le-suc, eq-or-lt-of-le, mul-zero, mul-suc}
@@ -7,7 +7,7 @@ use mathlib.Core.Logic.{⊎-elim}
 use native.Mathlib.Numerals.{add-one}
 use native.Mathlib.Omega.{arith}
 use borrow.Author.Tests.{le-leb, lt-leb, leb-true, leb-false}
-use lib.Dec.{leb, T}
+use lib.Dec.{leb}
 use mathlib.Core.List.{[], _∷_}
 use lib.ListN.{length, getD}
 use Rattle.bits.proofs.Tests.{or-right}

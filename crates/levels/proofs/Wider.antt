@@ -1,7 +1,7 @@
 -- What a wider limit changes. Assumes nothing.
 use Prim.Native.Nat.{ℕ, zero, suc, _*_, _≤_, _<_}
 use mathlib.Core.Path.{_≡_, refl, sym, ap}
-use mathlib.Core.Bool.{Bool, true, false, cond, _||_, true≢false}
+use mathlib.Core.Bool.{Bool, true, false, cond, true≢false}
 use mathlib.Core.List.{List, [], _∷_}
 use mathlib.Core.Logic.{_⊎_}
 use native.Mathlib.Nat.{le-trans, mul-le-mul-right}

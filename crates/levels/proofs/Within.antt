@@ -4,13 +4,12 @@ use Prim.Native.Nat.{ℕ, zero, suc, _+_, _-_, _*_, _^_, _≤_, _<_, zero-le}
 use mathlib.Core.Path.{_≡_, refl, sym, ap, _∙_, subst}
 use mathlib.Core.Bool.{Bool, true, false, cond, not, _&&_, true≢false, Bool·beq}
 use mathlib.Core.Logic.{inl, inr}
-use native.Mathlib.Nat.{le-trans, le-of-eq, lt-of-le-of-lt, eq-zero-or-pos, not-le-of-lt, zero-mul, mul-zero, mul-one, one-mul, mul-comm, mul-assoc, mul-left-comm, mul-right-comm, mul-le-mul-right, mul-le-mul-left, mul-le-mul, add-mul, le-of-mul-le-mul-right, mul-pos}
+use native.Mathlib.Nat.{le-trans, le-of-eq, lt-of-le-of-lt, eq-zero-or-pos, not-le-of-lt, zero-mul, mul-zero, mul-one, one-mul, mul-comm, mul-assoc, mul-left-comm, mul-right-comm, mul-le-mul-right, mul-le-mul, add-mul, le-of-mul-le-mul-right, mul-pos}
 use native.Mathlib.Omega.{arith}
 use borrow.Author.Tests.{ltb-true, ltb-false, le-ltb, ne-eqb}
 use lib.Dec.{T, leb, ltb, leb→le, lit<}
-use lib.IntN.{ℤ}
 use lib.Pow.{pow-add, pow-pos, pow-mono}
-use lib.Ieee.{Float, nan, inf, fin, binary32, low, emax, up, down, unlike, units, round, sum, add, sub, mul, div, neg, lt, eq, le}
+use lib.Ieee.{Float, nan, inf, fin, binary32, up, down, unlike, units, round, sum, add, sub, mul, div, neg, lt, eq, le}
 use lib.Ieee.Exact.{HasValue, units-val, round-exact}
 use lib.Ieee.Fits.{up-pos, down-pos, round-is}
 use lib.Ieee.Order.{drop, kept, round-mono}
@@ -34,7 +33,7 @@ not-under nan b c v h = v
 not-under (inf s) b c v h = v
 not-under (fin s m e) b c v h = h
 
--- x is the number ±units × 2 ^ -149, of at most 2 ^ k in size
+-- x is ± so many parts of 2 ^ -149, and at most 2 ^ k in size
 record Rounded (x : Float) (s : Bool) (k : ℕ) : Type 0 where
   parts : ℕ
   value : HasValue x s parts (2 ^ 149)

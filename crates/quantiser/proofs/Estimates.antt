@@ -1,12 +1,12 @@
 -- The estimates fit the Rust's i32: none is clamped by `as i32`, and the probes beside them fit too. Assumes nothing.
 use Prim.Native.Nat.{ℕ, suc, _+_, _-_, _*_, _/_, _^_, min, _≤_, _<_}
 use mathlib.Core.Path.{_≡_, refl, sym, subst}
-use mathlib.Core.Bool.{Bool, true, false, cond, not, _&&_, _||_, true≢false}
-use native.Mathlib.Nat.{le-trans, mul-assoc, suc-mul, mul-pos, div-lt-iff-lt-mul}
+use mathlib.Core.Bool.{Bool, true, false, not, _&&_, _||_, true≢false}
+use native.Mathlib.Nat.{mul-assoc, suc-mul, mul-pos, div-lt-iff-lt-mul}
 use native.Mathlib.Omega.{arith}
 use borrow.Author.Tests.{ltb-false, ne-eqb, eqb-true}
 use lib.Dec.{T, eqb, leb, lit<, lit≤, leb→le}
-use lib.IntN.{ℤ, pos, negsuc, negℤ, natAbs}
+use lib.IntN.{ℤ, pos, negsuc, natAbs}
 use lib.Ieee.{Float, nan, inf, fin, up, down, binary32, ofBits, ofInt, add, sub, mul, div, lt, le, isNan}
 use lib.Ieee.Bits.{is-false}
 use lib.Ieee.Fits.{down-pos}
