@@ -112,9 +112,12 @@ static void books(void)
         /* 16384 is the largest size */
         v[5] = 0x1.000002p14f;
         EXPECT(fathrugg_vq_search(hebap, v, &index) == FATHRUGG_COMPONENT && index == sizes[hebap] - 1);
-        v[5] = -0x1p14f;
-        EXPECT(fathrugg_vq_search(hebap, v, &index) == FATHRUGG_OK && index < sizes[hebap]);
     }
+    /* far out the distance is about 2^28 less the sixth number, or more by it; of hebap 1 they are 4820, 849, -2636, -3062 */
+    const float far[6] = {0, 0, 0, 0, 0, 0x1p14f}, below[6] = {0, 0, 0, 0, 0, -0x1p14f};
+    size_t index = 4711;
+    EXPECT(fathrugg_vq_search(1, far, &index) == FATHRUGG_OK && index == 0);
+    EXPECT(fathrugg_vq_search(1, below, &index) == FATHRUGG_OK && index == 3);
 }
 
 static void quantiser(void)
@@ -184,6 +187,14 @@ static void channel(void)
        five of 1 with it 10 */
     EXPECT(fathrugg_plan_aht_channel(hebap, 2, 0, 2, loud, 12, &mode, gk, &count, &payload) == FATHRUGG_OK);
     EXPECT(mode == 2 && count == 1 && gk[0] == 4 && payload == 10);
+    /* mode 10, the gain's bit 1, the tag 1, the highest level 011, five small codes 0: 1011 0110 0000 */
+    uint8_t out[2] = {0, 0};
+    byte = 0;
+    bit = 0;
+    EXPECT(fathrugg_write_aht_channel(mode, gk, count, payload, hebap, 2, 0, 2, louder, 12, out, 2, &byte, &bit) == FATHRUGG_COMPONENT);
+    EXPECT(out[0] == 0 && byte == 0 && bit == 0);
+    EXPECT(fathrugg_write_aht_channel(mode, gk, count, payload, hebap, 2, 0, 2, loud, 12, out, 2, &byte, &bit) == FATHRUGG_OK);
+    EXPECT(out[0] == 0xb6 && out[1] == 0 && byte == 1 && bit == 4);
 }
 
 /* The components of bins of hebap 0 are never looked at: here they are never set, which valgrind tells if they are.

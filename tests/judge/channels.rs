@@ -3,7 +3,7 @@ use crate::eac3::{aht, ahtenc};
 use crate::ours;
 use crate::random::Random;
 use crate::shown::{self, Shown};
-use crate::signals::{bin_of, cause, channel, fitting, louder, nudged, some_plan, unit, vectors, with_field, EARLIER, LARGEST};
+use crate::signals::{bin_of, border, cause, channel, fitting, louder, some_plan, unit, vectors, with_field, LARGEST};
 use crate::Tally;
 use oxideav_core::bits::BitWriter;
 
@@ -23,7 +23,7 @@ fn some_channel(random: &mut Random) -> (Vec<u8>, Vec<f32>, usize, usize) {
         1 => 256 - random.below(3),
         _ => random.below(14),
     };
-    let (row, x) = channel(random, bins);
+    let (row, x) = channel(random, bins, LARGEST);
     let start = if random.below(3) == 0 { random.below(bins + 1) } else { 0 };
     let end = start + if random.below(3) == 0 { random.below(bins - start + 1) } else { bins - start };
     (row, x, start, end)
@@ -156,7 +156,7 @@ fn refused(random: &mut Random, all: &mut Tally) {
                 }
                 7 if !x.is_empty() => {
                     let k = random.below(x.len());
-                    x[k] = random.pick(&[f32::NAN, f32::INFINITY, nudged(LARGEST, 1), -nudged(LARGEST, 1), nudged(EARLIER, 1), -LARGEST, -1e30]);
+                    x[k] = border(random);
                 }
                 8 => x.truncate(random.below(x.len() + 1)),
                 9 => row.truncate(random.below(row.len() + 1)),
@@ -235,7 +235,7 @@ fn cut(random: &mut Random, all: &mut Tally) {
     for _ in 0..crate::times(1_500, 1_500) {
         let (row, x) = {
             let bins = random.below(9);
-            channel(random, bins)
+            channel(random, bins, LARGEST)
         };
         let (start, end) = (0, row.len());
         let rust = some_plan(random, &row, start, end, &x);

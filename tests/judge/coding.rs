@@ -2,7 +2,7 @@
 use crate::eac3::{aht, ahtenc};
 use crate::ours;
 use crate::random::Random;
-use crate::signals::{aimed, allowed, bin_of, book_size, cause, channel, code_of, component, edges, kept, loud, loud_tie, louder, nudged, outside, vectors, LARGEST};
+use crate::signals::{aimed, allowed, bin_of, book_size, border, borders, cause, channel, code_of, component, kept, loud, loud_tie, louder, nudged, outside, vectors, LARGEST};
 use crate::Tally;
 
 pub fn run(seed: u64, all: &mut Tally) {
@@ -39,7 +39,7 @@ fn vq_search(random: &mut Random, all: &mut Tally) {
     one(1, &[-3582.0, -5096.0, -3448.0, 4629.0, -3975.0, -1091.0].map(|v: f32| v / 32768.0));
     one(1, &[-2535.0, 1492.0, -3722.0, -7072.0, -2163.0, -884.0].map(|v: f32| v / 32768.0));
     for hebap in 0..=255u8 {
-        for bad in NO_NUMBERS.map(f32::from_bits).into_iter().chain(edges()) {
+        for bad in borders() {
             for j in 0..6 {
                 let mut x = [0.25f32; 6];
                 x[j] = bad;
@@ -55,7 +55,7 @@ fn vq_search(random: &mut Random, all: &mut Tally) {
             let (a, b) = (aht::vq_lookup(hebap, random.below(size)), aht::vq_lookup(hebap, random.below(size)));
             core::array::from_fn(|j| nudged((a[j] + b[j]) / 2.0, random.below(5) as i32 - 2))
         } else {
-            core::array::from_fn(|_| component(random))
+            core::array::from_fn(|_| component(random, LARGEST))
         };
         one(hebap, &x);
     }
@@ -65,7 +65,7 @@ fn vq_search(random: &mut Random, all: &mut Tally) {
         let hebap = 1 + random.below(7) as u8;
         let x: [f32; 6] = match random.below(4) {
             0 => core::array::from_fn(|_| loud(random)),
-            1 => core::array::from_fn(|_| if random.below(2) == 0 { random.pick(&[LARGEST, -LARGEST]) } else { component(random) }),
+            1 => core::array::from_fn(|_| if random.below(2) == 0 { random.pick(&[LARGEST, -LARGEST]) } else { component(random, LARGEST) }),
             _ => loud_tie(random, hebap),
         };
         ties += usize::from(tied(hebap, &x));
@@ -84,9 +84,6 @@ fn tied(hebap: u8, x: &[f32; 6]) -> bool {
     assert!(least.is_finite(), "no distance is infinite");
     (found + 1..book_size(hebap)).any(|i| far(i) == least)
 }
-
-/// NaNs of each kind and sign, and the infinities.
-const NO_NUMBERS: [u32; 8] = [0x7fc0_0000, 0xffc0_0000, 0x7fff_ffff, 0x7f80_0001, 0xff80_0001, 0x7fa0_0000, 0x7f80_0000, 0xff80_0000];
 
 fn quantise_scalar(random: &mut Random, all: &mut Tally) {
     let mut t = Tally::of("quantise_scalar");
@@ -114,21 +111,22 @@ fn quantise_scalar(random: &mut Random, all: &mut Tally) {
     }
     for hebap in 8..=19 {
         for gk in [1, 2, 4] {
-            for x in [0.0, -0.0, f32::MIN_POSITIVE, f32::from_bits(1)].into_iter().chain(NO_NUMBERS.map(f32::from_bits)).chain(edges()) {
+            for x in [0.0, -0.0, f32::MIN_POSITIVE, f32::from_bits(1)].into_iter().chain(borders()) {
                 one(hebap, gk, x);
             }
             if !allowed(hebap, gk) {
                 continue;
             }
             for _ in 0..crate::times(25_000, 170_000) {
-                let x = component(random);
+                let x = component(random, LARGEST);
                 one(hebap, gk, x);
                 let x = aimed(random, hebap, gk);
                 one(hebap, gk, x);
             }
             for i in 0..crate::times(5_000, 50_000) {
-                let x = if i == 0 { 1.25 } else { loud(random) };
-                assert_eq!(code_of(hebap, gk, x).1, end_code(hebap, gk, x), "{hebap} {gk} {x}: the end code");
+                let x = if i < 2 { [1.25, -1.25][i] } else { loud(random) };
+                let (large, code, _, _) = code_of(hebap, gk, x);
+                assert_eq!((large, code), (1, end_code(hebap, gk, x)), "{hebap} {gk} {x}: the end code");
                 one(hebap, gk, x);
             }
         }
@@ -152,10 +150,10 @@ fn quantise_bin(random: &mut Random, all: &mut Tally) {
         let mut x: [f32; 6] = core::array::from_fn(|_| match random.below(2) {
             _ if all_loud => loud(random),
             0 if allowed(hebap, gk) => aimed(random, hebap, gk),
-            _ => component(random),
+            _ => component(random, LARGEST),
         });
         if random.below(10) == 0 {
-            x[random.below(6)] = if random.below(3) == 0 { f32::from_bits(random.pick(&NO_NUMBERS)) } else { random.pick(&edges()) };
+            x[random.below(6)] = border(random);
         }
         let (mut values, mut bits, mut err) = (kept(), 4711u32, kept()[1]);
         let refusal = ours::quantise_bin(hebap, gk, &x, &mut values, &mut bits, &mut err);
@@ -183,7 +181,7 @@ fn plan(random: &mut Random, all: &mut Tally) {
             1 => 256,
             _ => random.below(24),
         };
-        let (mut row, mut x) = channel(random, bins);
+        let (mut row, mut x) = channel(random, bins, LARGEST);
         let (mut start, mut end) = (0, bins);
         if random.below(3) == 0 {
             start = random.below(bins + 2);
@@ -198,7 +196,7 @@ fn plan(random: &mut Random, all: &mut Tally) {
                 }
                 1 if !x.is_empty() => {
                     let k = random.below(x.len());
-                    x[k] = if random.below(2) == 0 { f32::from_bits(random.pick(&NO_NUMBERS)) } else { random.pick(&edges()) };
+                    x[k] = border(random);
                 }
                 2 => x.truncate(random.below(x.len() + 1)),
                 3 => row.truncate(random.below(row.len() + 1)),

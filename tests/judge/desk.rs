@@ -158,7 +158,7 @@ fn good(random: &mut Random) -> Vec<u8> {
         1 => random.below(257),
         _ => random.below(7),
     };
-    let (mut row, x) = signals::channel(random, bins);
+    let (mut row, x) = signals::channel(random, bins, signals::EARLIER);
     let (mut start, mut end) = (0, bins);
     match random.below(14) {
         0 => start = random.below(bins + 2),

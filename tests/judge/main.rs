@@ -102,6 +102,7 @@ fn main() {
         println!("compare: {call:<28} {n} answers with a component above 1024");
         few += usize::from(n < times(10_000, 10_000) as u64);
     }
+    println!("compare: {few} calls have too few of these");
     println!("compare: {missing} refusals of a call were not met, {} are on no list {unknown:?}", unknown.len());
     if all.different > 0 || missing > 0 || few > 0 || !unknown.is_empty() {
         std::process::exit(1);

@@ -9,7 +9,8 @@
 //! value, 112 and 120 the position after, 125 to 127 what the record is aimed at, 128 vectors (24). A refused call has
 //! its value 0 and its position and output as they were, a refused bin is zeros. Channels are in record_channels.rs.
 //!
-//! Of each function first the calls that are aimed at something, then 250 drawn at random.
+//! Of each function first the calls that are aimed at something, then 250 drawn at random, all of them with components
+//! up to 1024; then those that came with loud material, up to 16384, from a seed of their own: the others stayed.
 use crate::eac3::{aht, ahtenc};
 use crate::random::Random;
 use crate::record_channels;
@@ -160,14 +161,15 @@ const NAMES: [&str; 18] = [
 
 /// Writes the files stdin, and stdout as it is when no answer is wrong, of both programs.
 pub fn write(seed: u64, crates: &str) {
-    let mut random = Random::new(seed);
+    let (mut random, mut later) = (Random::new(seed), Random::new(seed + 1));
     let calls = (1..=13).chain([17]).map(|f| {
         let mut records = special(f, &mut random);
         records.extend((0..250).map(|i| one(f, i, &mut random)));
+        records.extend(loud_ones(f, &mut later));
         Records { name: NAMES[f as usize], bytes: records.iter().flat_map(|r| r.0).collect(), count: records.len() }
     });
     let calls: Vec<Records> = calls.collect();
-    let channels = record_channels::records(&mut random);
+    let channels = record_channels::records(&mut random, &mut later);
     for (program, all) in [("replay", &calls), ("replay_channels", &channels)] {
         let stdin: Vec<u8> = all.iter().flat_map(|r| r.bytes.iter().copied()).collect();
         let stdout: String = all.iter().map(|r| format!("{}: {} answers, 0 wrong\n", r.name, r.count)).collect();
@@ -281,23 +283,14 @@ fn special(f: u8, random: &mut Random) -> Vec<Record> {
                 for (j, bad) in NO_NUMBERS.into_iter().enumerate() {
                     let mut x = [0.25f32; 6];
                     x[(j + hebap as usize) % 6] = bad;
-                    let r = Record::new(f).args(&[hebap]).vectors(&x);
-                    out.push(if book_size(hebap) > 0 { r.answer(5, 0, 0) } else { r.answer(0, ahtenc::vq_search(hebap, &x), 0) }.aim(aim::NO_NUMBER));
+                    out.push(searched(f, hebap, x).aim(aim::NO_NUMBER));
                 }
             }
-            for hebap in 1..=7 {
-                for x in loudly_tied(hebap, random) {
-                    out.push(Record::new(f).args(&[hebap]).vectors(&x).answer(0, ahtenc::vq_search(hebap, &x), 0).aim(aim::LOUD_TIE));
-                    let x = six_loud(random);
-                    out.push(Record::new(f).args(&[hebap]).vectors(&x).answer(0, ahtenc::vq_search(hebap, &x), 0).aim(aim::LOUD));
-                }
-            }
-            for (j, x) in edges().into_iter().enumerate() {
+            for (j, x) in edges(EARLIER).into_iter().enumerate() {
                 let hebap = 1 + (j % 7) as u8;
                 let mut v = [0.1f32; 6];
                 v[j % 6] = x;
-                let r = Record::new(f).args(&[hebap]).vectors(&v);
-                out.push(if outside(x) { r.answer(5, 0, 0) } else { r.answer(0, ahtenc::vq_search(hebap, &v), 0) }.aim(aim::LIMIT));
+                out.push(searched(f, hebap, v).aim(aim::LIMIT));
             }
         }
         // quantise_scalar and quantise_bin: every component of a bin in turn
@@ -343,12 +336,43 @@ fn special(f: u8, random: &mut Random) -> Vec<Record> {
                     out.push(r.aim(aim::NO_NUMBER));
                 }
             }
-            for (j, x) in edges().into_iter().enumerate() {
+            for (j, x) in edges(EARLIER).into_iter().enumerate() {
                 out.push(each(x, 8 + (j % 9) as u8, [1, 2, 4][j % 3], j).aim(aim::LIMIT));
             }
+        }
+        _ => {}
+    }
+    out
+}
+
+/// The calls of a function that came with loud material.
+fn loud_ones(f: u8, random: &mut Random) -> Vec<Record> {
+    let mut out = Vec::new();
+    match f {
+        // vq_search
+        11 => {
+            for hebap in 1..=7 {
+                for x in loudly_tied(hebap, random) {
+                    out.push(searched(f, hebap, x).aim(aim::LOUD_TIE));
+                    out.push(searched(f, hebap, six_loud(random)).aim(aim::LOUD));
+                }
+            }
+            for (j, x) in edges(LARGEST).into_iter().enumerate() {
+                let mut v = [0.1f32; 6];
+                v[j % 6] = x;
+                out.push(searched(f, 1 + (j % 7) as u8, v).aim(aim::LIMIT));
+            }
+        }
+        // quantise_scalar and quantise_bin: every hebap and gain
+        12 | 13 => {
+            let of = |hebap, gk, j: usize, x: [f32; 6]| if f == 12 { quantised(f, hebap, gk, x[j]) } else { quantised_bin(f, hebap, gk, x) };
             for (hebap, gk) in (8..=19).flat_map(|h| [1, 2, 4].map(|g| (h, g))).filter(|&(h, g)| allowed(h, g)) {
-                let six = six_loud(random);
-                out.push(if f == 12 { quantised(f, hebap, gk, six[0]) } else { quantised_bin(f, hebap, gk, six) }.aim(aim::LOUD));
+                out.push(of(hebap, gk, 0, six_loud(random)).aim(aim::LOUD));
+            }
+            for (j, x) in edges(LARGEST).into_iter().enumerate() {
+                let mut v = [0.1f32; 6];
+                v[j] = x;
+                out.push(of(8 + j as u8, [1, 2, 4][j % 3], j, v).aim(aim::LIMIT));
             }
         }
         _ => {}
@@ -576,20 +600,19 @@ fn one(f: u8, i: usize, random: &mut Random) -> Record {
         // vq_search
         11 => {
             let hebap = (i % 9) as u8;
-            let x = six(random, i, |random| component(random) / 4.0);
-            let r = Record::new(f).args(&[hebap]).vectors(&x);
-            if (1..=7).contains(&hebap) && x.iter().any(|&v| outside(v)) { r.answer(5, 0, 0) } else { r.answer(0, ahtenc::vq_search(hebap, &x), 0) }
+            let x = six(random, i, |random| component(random, EARLIER) / 4.0);
+            searched(f, hebap, x)
         }
         // quantise_scalar: every hebap and gain
         12 => {
             let (hebap, gk) = gain_of(i);
-            let x = six(random, i, |random| if allowed(hebap, gk) { aimed(random, hebap, gk) } else { component(random) })[i % 6];
+            let x = six(random, i, |random| if allowed(hebap, gk) { aimed(random, hebap, gk) } else { component(random, EARLIER) })[i % 6];
             quantised(f, hebap, gk, x)
         }
         // quantise_bin
         13 => {
             let (hebap, gk) = gain_of(i);
-            let x = six(random, i, |random| if allowed(hebap, gk) && random.below(2) == 0 { aimed(random, hebap, gk) } else { component(random) });
+            let x = six(random, i, |random| if allowed(hebap, gk) && random.below(2) == 0 { aimed(random, hebap, gk) } else { component(random, EARLIER) });
             quantised_bin(f, hebap, gk, x)
         }
         // read_scalar_aht_mantissas: first every hebap and gain, with codes chosen so that half of them are behind
@@ -648,6 +671,14 @@ fn scalar(f: u8, src: &[u8], at: usize, over: usize, hebap: u8, mode: u8, gaqbin
     }
 }
 
+fn searched(f: u8, hebap: u8, x: [f32; 6]) -> Record {
+    let r = Record::new(f).args(&[hebap]).vectors(&x);
+    if book_size(hebap) > 0 && x.iter().any(|&v| outside(v)) {
+        return r.answer(5, 0, 0);
+    }
+    r.answer(0, ahtenc::vq_search(hebap, &x), 0)
+}
+
 /// The last of the small arguments says whether the code is large.
 fn quantised(f: u8, hebap: u8, gk: u8, x: f32) -> Record {
     let r = Record::new(f).vectors(&[x]);
@@ -683,7 +714,7 @@ fn gain_of(i: usize) -> (u8, u8) {
 fn six(random: &mut Random, i: usize, mut one: impl FnMut(&mut Random) -> f32) -> [f32; 6] {
     let mut x = core::array::from_fn(|_| one(random));
     if i % 11 == 5 {
-        x[i % 6] = random.pick(&[f32::INFINITY, f32::NEG_INFINITY, nudged(LARGEST, 1), -65536.0, LARGEST, -4096.0]);
+        x[i % 6] = random.pick(&[f32::INFINITY, f32::NEG_INFINITY, 1024.0001, -4096.0, 1024.0]);
     }
     x
 }

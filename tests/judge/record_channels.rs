@@ -12,7 +12,7 @@ use crate::eac3::{aht, ahtenc};
 use crate::random::Random;
 use crate::record::{aim, six_loud, Records, FAR, NO_NUMBERS};
 use crate::shown;
-use crate::signals::{bin_of, cause, channel, edges, fitting, outside, some_plan, unit, vectors, with_field};
+use crate::signals::{bin_of, cause, channel, edges, fitting, outside, some_plan, unit, vectors, with_field, EARLIER, LARGEST};
 use oxideav_core::bits::{BitReader, BitWriter};
 
 const PLAN: u8 = 14;
@@ -52,7 +52,7 @@ impl Call {
     }
 
     fn drawn(random: &mut Random, bins: usize) -> Call {
-        let (row, x) = channel(random, bins);
+        let (row, x) = channel(random, bins, EARLIER);
         let start = if random.below(3) == 0 { random.below(bins + 1) } else { 0 };
         let end = start + if random.below(3) == 0 { random.below(bins - start + 1) } else { bins - start };
         let plan = some_plan(random, &row, start, end, &x);
@@ -315,8 +315,8 @@ impl Record {
     }
 }
 
-/// The records of the three functions, of each the aimed ones first, then 100 drawn at random.
-pub fn records(random: &mut Random) -> Vec<Records> {
+/// The records of the three functions, of each the aimed ones first, then 100 drawn at random, then the loud ones.
+pub fn records(random: &mut Random, later: &mut Random) -> Vec<Records> {
     let mut out = Vec::new();
     for (f, name) in [(PLAN, "plan_aht_channel"), (WRITE, "write_aht_channel"), (READ, "read_aht_channel")] {
         let mut of = Vec::new();
@@ -326,6 +326,10 @@ pub fn records(random: &mut Random) -> Vec<Records> {
             fields(random, &mut of);
         }
         of.extend((0..100).map(|i| drawn(f, i, random)));
+        if f != READ {
+            at_limit(LARGEST, f, later, &mut of);
+            loud_ones(f, later, &mut of);
+        }
         out.push(Records { name, bytes: of.iter().flat_map(|r| r.0).collect(), count: of.len() });
     }
     out
@@ -437,22 +441,7 @@ fn special(f: u8, random: &mut Random, out: &mut Vec<Record>) {
         out.push(call.record(f).with(0).aim(at));
     }
     if f != READ {
-        for (j, x) in edges().into_iter().chain(NO_NUMBERS).enumerate() {
-            let mut call = Call::plain(random);
-            call.x[6 + j] = x;
-            let plan = if !outside(x) { Some(ahtenc::plan_aht_channel(&call.row, 1, 5, &vectors(&call.x))) } else { None };
-            let call = plan.map_or_else(|| call.clone(), |p| Call::of(call.row.clone(), call.x.clone(), 1, 5, &p, 3, random));
-            let at = if j < edges().len() { aim::LIMIT } else { aim::NO_NUMBER };
-            out.push(call.record(f).with(if outside(x) { 5 } else { 0 }).aim(at));
-        }
-        // loud bins of every kind
-        for k in 0..18 {
-            let bins = 1 + k % 6;
-            let row: Vec<u8> = (0..bins).map(|i| 1 + ((7 * k + i) % 19) as u8).collect();
-            let x: Vec<f32> = row.iter().flat_map(|_| six_loud(random)).collect();
-            let plan = some_plan(random, &row, 0, bins, &x);
-            out.push(Call::of(row, x, 0, bins, &plan, k, random).record(f).with(0).aim(aim::LOUD));
-        }
+        at_limit(EARLIER, f, random, out);
         // components of hebap 0 are not looked at
         for bad in NO_NUMBERS {
             let mut call = Call::plain(random);
@@ -613,6 +602,32 @@ fn fields(random: &mut Random, out: &mut Vec<Record>) {
     }
 }
 
+/// One component at a limit, beside it, or no number.
+fn at_limit(limit: f32, f: u8, random: &mut Random, out: &mut Vec<Record>) {
+    for (j, x) in edges(limit).into_iter().chain(NO_NUMBERS).enumerate() {
+        let mut call = Call::plain(random);
+        call.x[6 + j] = x;
+        let plan = if x.abs() <= limit { Some(ahtenc::plan_aht_channel(&call.row, 1, 5, &vectors(&call.x))) } else { None };
+        let call = plan.map_or_else(|| call.clone(), |p| Call::of(call.row.clone(), call.x.clone(), 1, 5, &p, 3, random));
+        let at = if j < 6 { aim::LIMIT } else { aim::NO_NUMBER };
+        // beside 1024 the call is as it was, refused with 5; its plan is that of another vector, and may not fit
+        let due = if outside(x) { 5 } else { call.record(f).refusal() };
+        assert!(due == 5 || x.abs() > limit || due == 0, "at the limit it is answered");
+        out.push(call.record(f).with(due).aim(at));
+    }
+}
+
+/// Loud bins of every kind.
+fn loud_ones(f: u8, random: &mut Random, out: &mut Vec<Record>) {
+    for k in 0..18 {
+        let bins = 1 + k % 6;
+        let row: Vec<u8> = (0..bins).map(|i| 1 + ((7 * k + i) % 19) as u8).collect();
+        let x: Vec<f32> = row.iter().flat_map(|_| six_loud(random)).collect();
+        let plan = some_plan(random, &row, 0, bins, &x);
+        out.push(Call::of(row, x, 0, bins, &plan, k, random).record(f).with(0).aim(aim::LOUD));
+    }
+}
+
 /// A call drawn at random, some of them with a fault.
 fn drawn(f: u8, i: usize, random: &mut Random) -> Record {
     let bins = random.below(9);
@@ -621,7 +636,7 @@ fn drawn(f: u8, i: usize, random: &mut Random) -> Record {
         1 => call.start = random.below(bins + 2),
         2 => call.end = random.pick(&[256, 257, usize::MAX]),
         3 if bins > 0 => call.row[random.below(bins)] = 20 + random.below(236) as u8,
-        4 if bins > 0 => call.x[random.below(6 * bins)] = random.pick(&[f32::INFINITY, -16385.0, 16384.0, f32::NAN]),
+        4 if bins > 0 => call.x[random.below(6 * bins)] = random.pick(&[f32::INFINITY, -1025.0, 1024.0, f32::NAN]),
         5 => call.x.truncate(random.below(6 * bins + 1)),
         6 => call.row.truncate(random.below(bins + 1)),
         7 => call.bytes.truncate(random.below(call.bytes.len() + 1)),

@@ -21,12 +21,21 @@ pub fn louder(x: f32) -> bool {
     !outside(x) && x.abs() > EARLIER
 }
 
-/// Both limits and their neighbours, in either sign.
-pub fn edges() -> [f32; 12] {
-    core::array::from_fn(|i| {
-        let x = nudged([EARLIER, LARGEST][i / 6], (i % 3) as i32 - 1);
-        if i / 3 % 2 == 0 { x } else { -x }
-    })
+/// A limit and its neighbours, in either sign.
+pub fn edges(limit: f32) -> [f32; 6] {
+    [limit, -limit, nudged(limit, 1), -nudged(limit, 1), nudged(limit, -1), -nudged(limit, -1)]
+}
+
+/// NaNs of each kind and sign, and the infinities.
+pub const NANS_AND_INFINITIES: [u32; 8] = [0x7fc0_0000, 0xffc0_0000, 0x7fff_ffff, 0x7f80_0001, 0xff80_0001, 0x7fa0_0000, 0x7f80_0000, 0xff80_0000];
+
+/// All of these.
+pub fn borders() -> impl Iterator<Item = f32> {
+    edges(EARLIER).into_iter().chain(edges(LARGEST)).chain(NANS_AND_INFINITIES.map(f32::from_bits))
+}
+
+pub fn border(random: &mut Random) -> f32 {
+    borders().nth(random.below(20)).unwrap()
 }
 
 /// The f32 that lies n steps from x.
@@ -76,18 +85,20 @@ pub fn loud_tie(random: &mut Random, hebap: u8) -> [f32; 6] {
     across.map(|v| v / most * LARGEST)
 }
 
-/// A component: mostly in and around -1 to 1, quiet ones, loud ones, ends of the domain, denormals and both zeros.
-pub fn component(random: &mut Random) -> f32 {
+/// A component up to a limit: mostly in and around -1 to 1, quiet ones, wide ones, ends of the domain, denormals and both
+/// zeros; above 1024 loud ones too.
+pub fn component(random: &mut Random, limit: f32) -> f32 {
     let sign = if random.below(2) == 0 { 1.0 } else { -1.0 };
     sign * match random.below(16) {
         0 => 0.0,
         1 => f32::from_bits(random.below(1 << 23) as u32),
-        2 => LARGEST * unit(random),
-        3 => random.pick(&edges()).abs().min(LARGEST),
-        9 => loud(random),
+        2 => limit * unit(random),
+        3 => nudged(limit, -(random.below(3) as i32)),
         4..=6 => unit(random) / 64.0,
         7 => (random.below(1 << 16) as f32) / 32768.0,
-        8 => f32::from_bits((random.next() as u32 % LARGEST.to_bits()).max(1)),
+        8 => f32::from_bits((random.next() as u32 % limit.to_bits()).max(1)),
+        9 if limit > EARLIER => loud(random),
+        10 if limit > EARLIER => random.pick(&edges(EARLIER)),
         _ => 1.2 * unit(random),
     }
 }
@@ -133,8 +144,9 @@ pub fn aimed(random: &mut Random, hebap: u8, gk: u8) -> f32 {
     nudged(x, random.below(7) as i32 - 3)
 }
 
-/// A row and its vectors: one kind of bin, or all kinds, quiet, loud, mixed, or aimed at the places where codes change.
-pub fn channel(random: &mut Random, bins: usize) -> (Vec<u8>, Vec<f32>) {
+/// A row and its vectors up to a limit: one kind of bin, or all kinds, quiet or mixed, aimed at the places where codes
+/// change, or, above 1024, loud.
+pub fn channel(random: &mut Random, bins: usize, limit: f32) -> (Vec<u8>, Vec<f32>) {
     let kind = random.below(6);
     let row: Vec<u8> = (0..bins)
         .map(|_| match kind {
@@ -145,17 +157,17 @@ pub fn channel(random: &mut Random, bins: usize) -> (Vec<u8>, Vec<f32>) {
             _ => random.below(20) as u8,
         })
         .collect();
-    let quiet = random.below(4);
+    let quiet = random.below(if limit > EARLIER { 4 } else { 3 });
     let x = row
         .iter()
         .flat_map(|&h| {
             let v: [f32; 6] = core::array::from_fn(|_| match quiet {
-                0 => component(random),
+                0 => component(random, limit),
                 1 if (8..=16).contains(&h) => {
                     let gk = random.pick(&[2, 4]);
                     aimed(random, h, gk)
                 }
-                2 => loud(random),
+                3 => loud(random),
                 _ => (unit(random) - 0.5) / [1.0, 2.0, 4.0, 16.0][random.below(4)],
             });
             v

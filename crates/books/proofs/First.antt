@@ -1,5 +1,5 @@
 -- The search finds the first index of least distance. Assumes nothing.
-use Prim.Native.Nat.{ℕ, zero, suc, _+_, _-_, _*_, _^_, _≤_, _<_}
+use Prim.Native.Nat.{ℕ, zero, suc, _+_, _*_, _^_, _≤_, _<_}
 use mathlib.Core.Path.{_≡_, refl, sym, ap, _∙_, subst}
 use mathlib.Core.Bool.{Bool, true, false, cond, true≢false}
 use mathlib.Core.List.{List}
@@ -101,10 +101,11 @@ term-most n k d x e u p h r f =
     (square-most (sub binary32 x e) (sub-within largestSize 1 15 (omega arith) x e h r (lit≤ tt))) f
 
 -- ---- the order of such numbers
-abbrev Number : Float → Type 0
-Number = AtMost (2 ^ 36)
+-- what a distance is: not negative, and 2 ^ 36 at most
+abbrev Bounded : Float → Type 0
+Bounded = AtMost (2 ^ 36)
 
-apart : (a b c : Float) → Number a → Number b → Number c → lt a b ≡ true → lt c b ≡ false → (lt a c ≡ true) × (lt c a ≡ false)
+apart : (a b c : Float) → Bounded a → Bounded b → Bounded c → lt a b ≡ true → lt c b ≡ false → (lt a c ≡ true) × (lt c a ≡ false)
 unfolding lt
 apart nan b c p q r h k = absurd p
 apart (inf s) b c p q r h k = absurd p
@@ -122,7 +123,7 @@ apart (fin false m e) (fin false n d) (fin false l g) p q r h k =
     lt-of-not-le (λ (f : l * up g * down e ≤ m * up e * down g). not-le-of-lt below (through (n * up d) (l * up g) (m * up e) (down d) (down g) (down e) (down-pos g) above f)) in
     (lt-ltb _ _ less, le-ltb _ _ (le-of-lt less))
 
-never-self : (c : Float) → Number c → lt c c ≡ false
+never-self : (c : Float) → Bounded c → lt c c ≡ false
 unfolding lt
 never-self nan p = absurd p
 never-self (inf s) p = absurd p
@@ -130,16 +131,16 @@ never-self (fin true m e) p = absurd p
 never-self (fin false m e) p = le-ltb (m * up e * down e) (m * up e * down e) (omega arith)
 
 -- below infinity, from which the search starts
-under : (c : Float) → Number c → lt c (inf false) ≡ true
+under : (c : Float) → Bounded c → lt c (inf false) ≡ true
 unfolding lt
 under nan p = absurd p
 under (inf s) p = absurd p
 under (fin s m e) p = refl
 
-number-finite : (c : Float) → Number c → T (finite c)
-number-finite nan p = absurd p
-number-finite (inf s) p = absurd p
-number-finite (fin s m e) p = tt
+bounded-finite : (c : Float) → Bounded c → T (finite c)
+bounded-finite nan p = absurd p
+bounded-finite (inf s) p = absurd p
+bounded-finite (fin s m e) p = tt
 
 module _ (x : List Float) (b : List ℤ) (l : length x ≡ 6) (h : someTooLarge x ≡ false) (fits : (i : ℕ) → mag (getD b i (pos 0)) < 2 ^ 15) where
   abbrev D : ℕ → Float
@@ -157,9 +158,9 @@ module _ (x : List Float) (b : List ℤ) (l : length x ≡ 6) (h : someTooLarge 
       term-most (2 ^ (30 + j)) (30 + suc j) (sumTo j x b a) (getD x j nan) _ (omega arith) (sum-most j a (omega arith)) (each-accepted x nan j h (omega arith))
       (entry-most (getD b (a + j) (pos 0)) (fits (a + j))) (omega arith)
 
-  distance-number : (k : ℕ) → Number (D k)
+  distance-bounded : (k : ℕ) → Bounded (D k)
   unfolding distanceOf
-  distance-number k = sum-most 6 (k * 6) (omega arith)
+  distance-bounded k = sum-most 6 (k * 6) (omega arith)
 
   -- the first of least distance among the vectors before k, and its distance
   record LeastBefore (k best : ℕ) (d : Float) : Type 0 where
@@ -171,7 +172,7 @@ module _ (x : List Float) (b : List ℤ) (l : length x ≡ 6) (h : someTooLarge 
       let only : FirstLeast x b 1 0 =
       record {
         there = omega arith;
-        none-smaller = λ j u. let z : j ≡ 0 = omega arith in rw z (never-self (D 0) (distance-number 0));
+        none-smaller = λ j u. let z : j ≡ 0 = omega arith in rw z (never-self (D 0) (distance-bounded 0));
         earlier-larger = λ j u. absurd (let z : j < 0 = u in omega arith);
       } in
       record { known = refl; least = only }
@@ -185,8 +186,8 @@ module _ (x : List Float) (b : List ℤ) (l : length x ≡ 6) (h : someTooLarge 
       split : (j : ℕ) → j < suc k → (j ≡ k) ⊎ (j < k)
       split j u = eq-or-lt-of-le (let v : j ≤ k = omega arith in v)
 
-      beyond : lt (D k) d ≡ true → (j : ℕ) → j < k → (lt (D k) (D j) ≡ true) × (lt (D j) (D k) ≡ false)
-      beyond e j v = apart (D k) (D best) (D j) (distance-number k) (distance-number best) (distance-number j) (rw (s .known) at e) (f .none-smaller j v)
+      further : lt (D k) d ≡ true → (j : ℕ) → j < k → (lt (D k) (D j) ≡ true) × (lt (D j) (D k) ≡ false)
+      further e j v = apart (D k) (D best) (D j) (distance-bounded k) (distance-bounded best) (distance-bounded j) (rw (s .known) at e) (f .none-smaller j v)
 
       go : (t : Bool) → lt (D k) d ≡ t → LeastBefore (suc k) (cond t k best) (cond t (D k) d)
       go true e =
@@ -194,10 +195,10 @@ module _ (x : List Float) (b : List ℤ) (l : length x ≡ 6) (h : someTooLarge 
           record {
             there = omega arith;
             none-smaller = λ j u. elim (split j u) [
-              | inl q ↦ rw q (never-self (D k) (distance-number k))
-              | inr v ↦ beyond e j v .1
+              | inl q ↦ rw q (never-self (D k) (distance-bounded k))
+              | inr v ↦ further e j v .1
             ];
-            earlier-larger = λ j u. beyond e j u .0;
+            earlier-larger = λ j u. further e j u .0;
           } in
           record { known = refl; least = least }
       go false e =
@@ -223,7 +224,7 @@ module _ (x : List Float) (b : List ℤ) (l : length x ≡ 6) (h : someTooLarge 
   first-least zero p = absurd (omega arith)
   first-least (suc n) p =
       let one : 1 + n ≡ suc n = omega arith in
-      rw (under (D 0) (distance-number 0)) (subst (λ (m : ℕ). FirstLeast x b m (searchFrom D n 1 0 (D 0))) one (search-on n 1 0 (D 0) first))
+      rw (under (D 0) (distance-bounded 0)) (subst (λ (m : ℕ). FirstLeast x b m (searchFrom D n 1 0 (D 0))) one (search-on n 1 0 (D 0) first))
 
 -- ---- there is only one such index
 -- the later of two would have a smaller distance than the earlier
@@ -239,7 +240,7 @@ first-unique x b n k k′ f g = le-antisymm (not-later x b n k′ k g f) (not-la
 
 -- ---- no distance in the search is a NaN or infinite
 pub distances-finite : (h : ℕ) (x : List Float) → 1 ≤ h → h ≤ 7 → length x ≡ 6 → someTooLarge x ≡ false → (k : ℕ) → T (finite (distanceOf x (book h) k))
-distances-finite h x l u s a k = number-finite (distanceOf x (book h) k) (distance-number x (book h) s a (λ i. book-fits h i l u) k)
+distances-finite h x l u s a k = bounded-finite (distanceOf x (book h) k) (distance-bounded x (book h) s a (λ i. book-fits h i l u) k)
 
 -- ---- the index that the search picks, and no other, is the first of least distance in the book of the hebap
 pub search-first : (h : ℕ) (x : List Float) → 1 ≤ h → h ≤ 7 → length x ≡ 6 → someTooLarge x ≡ false → FirstLeast x (book h) (2 ^ vqBits h) (searchOf h x)

@@ -50,7 +50,7 @@ module _ (a b : ℕ) (row vs s : List ℕ) (t : IsText a b row vs s) where
   unfolding planAnswer
   desk-cause n = desk-plans a b row vs s t ∙ rw (refusal-is row a b x, ne-eqb (causeOf row a b x) 0 n)
 
-  -- and 5 is never met: no number of a text is above 512 in size
+  -- and 5 is never met: no component of a text is above 512 in size
   pub desk-never-5 : causeOf row a b x ≡ cause.component → ⊥
   unfolding beyondAt
   desk-never-5 e =

@@ -1,16 +1,15 @@
 -- What a wider limit changes. Assumes nothing.
-use Prim.Native.Nat.{ℕ, zero, suc, _*_, _≤_, _<_}
+use Prim.Native.Nat.{ℕ, zero, suc, _*_, _≤_}
 use mathlib.Core.Path.{_≡_, refl, sym, ap}
 use mathlib.Core.Bool.{Bool, true, false, cond, true≢false}
 use mathlib.Core.List.{List, [], _∷_}
-use mathlib.Core.Logic.{_⊎_}
 use native.Mathlib.Nat.{le-trans, mul-le-mul-right}
 use borrow.Author.Tests.{ltb-false, le-ltb}
 use lib.ListN.{take, drop}
 use lib.Ieee.{Float, nan, inf, fin, up, down}
 use Rattle.answers.specs.Causes as cause
 use Rattle.bits.proofs.Tests.{neither}
-use Rattle.levels.specs.Component.{beyond, someBeyond, Widened}
+use Rattle.levels.specs.Component.{beyond, someBeyond, Later, Widened}
 
 -- what one limit accepts, a wider one does
 pub wider : (l l′ : ℕ) → l ≤ l′ → (x : Float) → beyond l x ≡ false → beyond l′ x ≡ false
@@ -38,7 +37,7 @@ some-part l (suc m) n (y ∷ x) f = some-part l m n x (neither (beyond l y) (som
 
 -- ---- an answer behind the test of the components, where a call makes it
 module _ {A : Type 0} (number : A → ℕ) (refused rest other : A) where
-  pub tested : number refused ≡ cause.component → (number rest ≡ cause.none) ⊎ (cause.component < number rest) → (number other ≡ cause.component → ⊥)
+  pub tested : number refused ≡ cause.component → Later (number rest) → (number other ≡ cause.component → ⊥)
       → (made t t′ : Bool) → (t ≡ false → t′ ≡ false) → Widened number t′ (cond made (cond t refused rest) other) (cond made (cond t′ refused rest) other)
   tested n m o false t t′ h = record { kept = λ e. refl; still = λ e w. refl; former = λ e w. absurd (o e) }
   tested n m o true true true h = record { kept = λ e. refl; still = λ e w. refl; former = λ e w. absurd (true≢false w) }
@@ -49,7 +48,7 @@ module _ {A : Type 0} (number : A → ℕ) (refused rest other : A) where
 -- ---- an answer that is made of another: 5 where that is, and no earlier number for it
 module _ {A B : Type 0} (na : A → ℕ) (nb : B → ℕ) (f : A → B) where
   pub made-of : ((a : A) → na a ≡ cause.component → nb (f a) ≡ cause.component) → ((a : A) → nb (f a) ≡ cause.component → na a ≡ cause.component)
-      → ((a : A) → (na a ≡ cause.none) ⊎ (cause.component < na a) → (nb (f a) ≡ cause.none) ⊎ (cause.component < nb (f a)))
+      → ((a : A) → Later (na a) → Later (nb (f a)))
       → (over : Bool) (a a′ : A) → Widened na over a a′ → Widened nb over (f a) (f a′)
   made-of five only later over a a′ w =
       record {

@@ -49,9 +49,9 @@ module _ (s : Bool) (a c k : ℕ) (p : 0 < c) (h : k ≤ 127) (f : a ≤ 2 ^ k *
   below : T (le (round binary32 false a c) top)
   below = round-mono binary32 a c (2 ^ k) 1 p (lit< tt) (rw (mul-one a) f)
 
-  finite : got < overflow binary32
+  no-overflow : got < overflow binary32
   unfolding units
-  finite = go (ltb got (overflow binary32)) refl
+  no-overflow = go (ltb got (overflow binary32)) refl
     where
       go : (t : Bool) → ltb got (overflow binary32) ≡ t → got < overflow binary32
       go true e = ltb-true got (overflow binary32) e
@@ -64,7 +64,7 @@ module _ (s : Bool) (a c k : ℕ) (p : 0 < c) (h : k ≤ 127) (f : a ≤ 2 ^ k *
       elim (eq-zero-or-pos got) [
         | inl z ↦ subst (λ (n : ℕ). n ≤ 2 ^ k * 2 ^ 149) (sym z) zero-le
         | inr q ↦
-            let v = round-val binary32 a c finite in
+            let v = round-val binary32 a c no-overflow in
             let l = values-of-le (round binary32 false a c) top got (2 ^ 149) (2 ^ k) 1 (positive-of-value (round binary32 false a c) got (2 ^ 149) v q)
             (positive-of-value top (2 ^ k) 1 (power-value k h) (pow-pos k)) v (power-value k h) below in
             rw (mul-one got) at l
@@ -74,7 +74,7 @@ module _ (s : Bool) (a c k : ℕ) (p : 0 < c) (h : k ≤ 127) (f : a ≤ 2 ^ k *
   rounded =
       record {
         parts = got;
-        value = subst (λ (z : Float). HasValue z s got (2 ^ 149)) (sym (round-is binary32 s a c)) (units-val binary32 s (kept 24 (a * 2 ^ 149) c) (drop 24 (a * 2 ^ 149) c) finite);
+        value = subst (λ (z : Float). HasValue z s got (2 ^ 149)) (sym (round-is binary32 s a c)) (units-val binary32 s (kept 24 (a * 2 ^ 149) c) (drop 24 (a * 2 ^ 149) c) no-overflow);
         most = most;
       }
 

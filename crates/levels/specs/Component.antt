@@ -30,9 +30,13 @@ abbrev pub someTooLarge : List Float → Bool
 someTooLarge = someBeyond largestSize
 
 -- ---- the answers of a call at a limit and at a wider one; `over`: a component is over the wider one
+-- a number that is none, or later than 5
+abbrev pub Later : ℕ → Type 0
+Later n = (n ≡ cause.none) ⊎ (cause.component < n)
+
 pub record Widened {A : Type 0} (number : A → ℕ) (over : Bool) (before after : A) : Type 0 where
   -- an answer whose number is not 5 is kept, and so is a 5 of a component that is over both
   pub kept : (number before ≡ cause.component → ⊥) → after ≡ before
   pub still : number before ≡ cause.component → over ≡ true → after ≡ before
   -- any other 5 is answered, or refused with a later number
-  pub former : number before ≡ cause.component → over ≡ false → (number after ≡ cause.none) ⊎ (cause.component < number after)
+  pub former : number before ≡ cause.component → over ≡ false → Later (number after)

@@ -1,15 +1,15 @@
 -- What the planner answered at a limit, it answers at a wider one. Assumes nothing.
-use Prim.Native.Nat.{ℕ, _*_, _≤_, _<_}
+use Prim.Native.Nat.{ℕ, _*_, _≤_}
 use mathlib.Core.Path.{_≡_, refl, sym, _∙_, subst}
 use mathlib.Core.Bool.{Bool, true, false, cond, not, _&&_}
 use mathlib.Core.List.{List}
-use mathlib.Core.Logic.{_⊎_, inl}
+use mathlib.Core.Logic.{inl}
 use native.Mathlib.Omega.{arith}
 use lib.Dec.{eqb, ltb}
 use lib.ListN.{length, getD}
 use lib.Ieee.{Float}
 use Rattle.answers.specs.Causes as cause
-use Rattle.levels.specs.Component.{someBeyond, Widened}
+use Rattle.levels.specs.Component.{someBeyond, Later, Widened}
 use Rattle.levels.proofs.Wider.{all-wider, tested, made-of}
 use Rattle.channel.specs.Bins.{someOver}
 use Rattle.channel.specs.Row.{sixOf, rowCause}
@@ -46,5 +46,5 @@ module _ (l l′ : ℕ) (w : l ≤ l′) (row : List ℕ) (start end : ℕ) (x :
       let p = planOf row x start end in
       made-of (λ (n : ℕ). n) (λ (p : Planned). p .refusal) (λ (c : ℕ). cond (eqb c 0) (record { refusal = 0; plan = p }) (refusalOf c))
       (λ c e. number-is c p ∙ e) (λ c e. sym (number-is c p) ∙ e)
-      (λ c h. subst (λ (n : ℕ). (n ≡ cause.none) ⊎ (cause.component < n)) (sym (number-is c p)) h)
+      (λ c h. subst Later (sym (number-is c p)) h)
       (someOver (beyondAt l′ row x) start end) (causeUpTo l row start end x) (causeUpTo l′ row start end x) cause-widened

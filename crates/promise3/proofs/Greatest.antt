@@ -1,6 +1,6 @@
 -- The greatest field has 31,152 bits: 256 bins of hebap 16 at Gk 4, every component behind a tag, in mode 3. That no
 -- plan that fits has more is writer's `fits-most`. Assumes nothing.
-use Prim.Native.Nat.{ℕ, zero, suc, _+_, _-_, _*_, _≤_, _<_}
+use Prim.Native.Nat.{ℕ, zero, suc, _+_, _*_, _≤_, _<_}
 use mathlib.Core.Path.{_≡_, refl, sym, ap, _∙_}
 use mathlib.Core.List.{List}
 use mathlib.Core.Bool.{true, false}

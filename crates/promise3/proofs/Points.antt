@@ -71,12 +71,12 @@ Escapes (PickResult.Refused n) = ⊥
 abbrev pub f32 : ℕ → Float
 f32 bits = ofBits binary32 bits
 
--- 16384 and -16384; the next f32 above each in size, the infinities and the NaN
+-- 16384 and -16384; the next f32 above each in size, the infinities, and NaNs, quiet and signalling
 abbrev pub largest : List Float
 largest = f32 0x4680_0000 ∷ f32 0xc680_0000 ∷ []
 
 abbrev pub tooLargeOnes : List Float
-tooLargeOnes = f32 0x4680_0001 ∷ f32 0xc680_0001 ∷ f32 0x7f80_0000 ∷ f32 0xff80_0000 ∷ f32 0x7fc0_0000 ∷ []
+tooLargeOnes = f32 0x4680_0001 ∷ f32 0xc680_0001 ∷ f32 0x7f80_0000 ∷ f32 0xff80_0000 ∷ f32 0x7fc0_0000 ∷ f32 0xffc0_0000 ∷ f32 0x7f80_0001 ∷ f32 0xff80_0001 ∷ []
 
 -- a call of the reader over bytes, from their first bit on, with outputs for n bins
 abbrev pub reading : List ℕ → ℕ → Call
@@ -139,7 +139,7 @@ pub record Points : Type 0 where
       × (totalOf deskPlan ≡ 15)
       × (channelWritten deskPlan deskRow 0 2 deskVectors (0 ∷ 0 ∷ []) 0 ≡ 0x69 ∷ 0x80 ∷ [])
   -- a component of 16384 is accepted, the next f32 above is not: in either sign, and no infinity or NaN is
-  pub p12 : (map tooLarge largest ≡ false ∷ false ∷ []) × (map tooLarge tooLargeOnes ≡ true ∷ true ∷ true ∷ true ∷ true ∷ [])
+  pub p12 : (map tooLarge largest ≡ false ∷ false ∷ []) × (map tooLarge tooLargeOnes ≡ replicate 8 true)
       × ((h g : ℕ) (x : Float) → allowed h g ≡ true → pickedNumber (quantised h g x) ≡ cond (tooLarge x) 5 0)
   -- whichever of the six it is, and by each call: the bin, the search, the planner, and the writer before 6 and 7
   pub p12-any : (a b c d e f : Float) → let six = a ∷ b ∷ c ∷ d ∷ e ∷ f ∷ [] in

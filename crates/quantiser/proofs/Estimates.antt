@@ -10,28 +10,29 @@ use lib.IntN.{ℤ, pos, negsuc, natAbs}
 use lib.Ieee.{Float, nan, inf, fin, up, down, binary32, ofBits, ofInt, add, sub, mul, div, lt, le, isNan}
 use lib.Ieee.Bits.{is-false}
 use lib.Ieee.Fits.{down-pos}
+use lib.Ieee.Scale.{finite}
 use Rattle.tables.specs.Numbers.{mantBitsTable, gaqRemapTable}
 use Rattle.tables.specs.Tables.{mantBits, gaqRemapAt}
 use Rattle.tables.proofs.Rules.{mant-bits}
 use Rattle.tables.proofs.Tests.{and-parts, every-at}
 use Rattle.levels.specs.Codes.{largeBits}
 use Rattle.levels.specs.Component.{beyond, largestSize, tooLarge}
-use Rattle.levels.specs.Value.{f0, f1, power, q15, offsetAt, gaqRemap, divided}
-use Rattle.levels.proofs.Signed.{by-test}
+use Rattle.levels.specs.Value.{power, q15, offsetAt, gaqRemap, divided}
 use Rattle.levels.proofs.Sizes.{abs-neg}
 use Rattle.levels.proofs.Within.{reaches, sub-within, mul-within, div-within}
-use Rattle.quantiser.specs.Quantise.{valueAt, slopeAt, estOne, stepsFrom, smallOf, allowed}
+use Rattle.quantiser.specs.Quantise.{valueAt, unitOf, unitsIn, slopeAt, stepsFrom, scaledUp, allowed}
 use Rattle.quantiser.specs.Round.{halfUp, roundMag, roundAway}
 
--- 2 ^ 30 at most in size, one more or less is an i32
-abbrev pub Fits : ℤ → Type 0
-Fits z = natAbs z ≤ 2 ^ 30
+-- q is a number, and what it rounds to is an i32, as are one more and one less
+pub record Fits (q : Float) : Type 0 where
+  pub number : T (finite q)
+  pub whole : natAbs (roundAway q) ≤ 2 ^ 30
 
 pub record EstimatesFit (h g : ℕ) (x : Float) : Type 0 where
   -- Gk 1: the estimate
-  pub one : g ≡ 1 → Fits (estOne h (mantBits h - 1) x)
-  -- Gk 2 and 4: s, and the steps from the level 0 or -1 before they are clamped
-  pub small : (g ≡ 1 → ⊥) → Fits (smallOf (mantBits h - 1) x)
+  pub one : g ≡ 1 → Fits (unitsIn h (mantBits h - 1) x)
+  -- Gk 2 and 4: s, and the steps from the level 0 or -1
+  pub small : (g ≡ 1 → ⊥) → Fits (scaledUp (mantBits h - 1) x)
   pub above : (g ≡ 1 → ⊥) → Fits (stepsFrom h g (largeBits (mantBits h) g - 1) (pos 0) x)
   pub below : (g ≡ 1 → ⊥) → Fits (stepsFrom h g (largeBits (mantBits h) g - 1) (negsuc 0) x)
 
@@ -43,72 +44,32 @@ half-most a d n p h =
     let q : (a * 2 + d) / (d * 2) < suc n = div-lt-iff-lt-mul (mul-pos p (lit< tt)) .1 (omega arith) in
     omega arith
 
-round-most : (n : ℕ) (q : Float) → beyond n q ≡ false → natAbs (roundAway q) ≤ n
+fits : (q : Float) → beyond (2 ^ 30) q ≡ false → Fits q
 unfolding beyond roundAway roundMag
-round-most n nan h = absurd (true≢false h)
-round-most n (inf s) h = absurd (true≢false h)
-round-most n (fin true m e) h =
-    let l = half-most (m * up e) (down e) n (down-pos e) (ltb-false (n * down e) (m * up e) h) in
+fits nan h = absurd (true≢false h)
+fits (inf s) h = absurd (true≢false h)
+fits (fin true m e) h =
+    let l = half-most (m * up e) (down e) (2 ^ 30) (down-pos e) (ltb-false (2 ^ 30 * down e) (m * up e) h) in
     let a = abs-neg (min (halfUp (m * up e) (down e)) 2147483648) in
-    omega arith
-round-most n (fin false m e) h = let l = half-most (m * up e) (down e) n (down-pos e) (ltb-false (n * down e) (m * up e) h) in omega arith
+    record { number = tt; whole = omega arith }
+fits (fin false m e) h =
+    let l = half-most (m * up e) (down e) (2 ^ 30) (down-pos e) (ltb-false (2 ^ 30 * down e) (m * up e) h) in
+    record { number = tt; whole = omega arith }
 
--- ---- the steps of the twelve hebaps, each one test
--- the values of levels that are subtracted, and the divisors
-abbrev unitOf : ℕ → Float
-unitOf h = gaqRemap h 1 (div binary32 f1 (power (mantBits h - 1)))
+-- ---- the divisors and what is subtracted, one test of all hebaps each
+unit-reaches : (h : ℕ) → 8 ≤ h → h ≤ 19 → T (reaches 16 (unitOf h (mantBits h - 1)))
+unfolding mantBits mantBitsTable gaqRemapAt gaqRemapTable gaqRemap q15 offsetAt add mul div le ofInt ofBits
+unit-reaches h l u = every-at (λ k. reaches 16 (unitOf k (mantBits k - 1))) 12 8 h tt l (omega arith)
 
+-- the levels 0 and -1 are 1 at most in size, and a step is 2 ^ -15 at least
 abbrev stepAt : ℕ → ℕ → Bool
 stepAt h g =
     let n = largeBits (mantBits h) g - 1 in
-    reaches 15 (slopeAt h g n) && (not (beyond 16384 (valueAt h g n (pos 0))) && not (beyond 16384 (valueAt h g n (negsuc 0))))
-
-unit-reaches : (h : ℕ) → 8 ≤ h → h ≤ 19 → T (reaches 16 (unitOf h))
-unfolding mantBits mantBitsTable gaqRemapAt gaqRemapTable gaqRemap q15 offsetAt add mul div le ofInt ofBits
-unit-reaches h l u = every-at (λ k. reaches 16 (unitOf k)) 12 8 h tt l (omega arith)
+    reaches 15 (slopeAt h g n) && (not (beyond 1 (valueAt h g n (pos 0))) && not (beyond 1 (valueAt h g n (negsuc 0))))
 
 steps-reach : (h : ℕ) → 8 ≤ h → h ≤ 16 → T (stepAt h 2) × T (stepAt h 4)
 unfolding mantBits mantBitsTable gaqRemapAt gaqRemapTable gaqRemap q15 offsetAt valueAt divided slopeAt beyond add sub mul div lt le isNan ofInt ofBits
 steps-reach h l u = and-parts (stepAt h 2) (stepAt h 4) (every-at (λ k. stepAt k 2 && stepAt k 4) 9 8 h tt l (omega arith))
-
-whole-size : (n : ℕ) → n ≤ 15 → T (not (beyond (2 ^ 15) (power n)))
-unfolding beyond ofInt
-whole-size n u = every-at (λ k. not (beyond (2 ^ 15) (power k))) 16 0 n tt (omega arith) (omega arith)
-
-not-beyond : (n : ℕ) (y : Float) → T (not (beyond n y)) → beyond n y ≡ false
-not-beyond n y t = is-false (beyond n y) t
-
--- ---- the estimates of a component that is accepted
-module _ (h g : ℕ) (x : Float) (fine : tooLarge x ≡ false) where
-  one-fits : 8 ≤ h → h ≤ 19 → Fits (estOne h (mantBits h - 1) x)
-  unfolding estOne
-  one-fits l u =
-      by-test Fits (lt f0 (unitOf h)) (roundAway (div binary32 x (unitOf h))) (pos 0)
-      (round-most (2 ^ 30) (div binary32 x (unitOf h)) (div-within largestSize 16 30 x (unitOf h) (omega arith) fine (unit-reaches h l u) (lit≤ tt)))
-      (omega arith)
-
-  small-fits : 8 ≤ h → h ≤ 19 → Fits (smallOf (mantBits h - 1) x)
-  unfolding smallOf
-  small-fits l u =
-      let m = mant-bits h l u in
-      let p = power (mantBits h - 1) in
-      round-most (2 ^ 30) (mul binary32 x p)
-      (mul-within largestSize (2 ^ 15) 30 (omega arith) x p fine (not-beyond (2 ^ 15) p (whole-size (mantBits h - 1) (omega arith))) (lit≤ tt))
-
-  steps-fit : (k : ℤ) → let n = largeBits (mantBits h) g - 1 in T (reaches 15 (slopeAt h g n)) → T (not (beyond 16384 (valueAt h g n k))) → Fits (stepsFrom h g n k x)
-  steps-fit k r v =
-      let n = largeBits (mantBits h) g - 1 in
-      let d = sub binary32 x (valueAt h g n k) in
-      round-most (2 ^ 30) (div binary32 d (slopeAt h g n))
-      (div-within (2 ^ 15) 15 30 d (slopeAt h g n) (omega arith)
-      (sub-within largestSize 16384 15 (omega arith) x (valueAt h g n k) fine (not-beyond 16384 (valueAt h g n k) v) (lit≤ tt)) r (lit≤ tt))
-
-  both-fit : T (stepAt h g) → let n = largeBits (mantBits h) g - 1 in Fits (stepsFrom h g n (pos 0) x) × Fits (stepsFrom h g n (negsuc 0) x)
-  both-fit t =
-      let n = largeBits (mantBits h) g - 1 in
-      let p = and-parts (reaches 15 (slopeAt h g n)) _ t in
-      let q = and-parts (not (beyond 16384 (valueAt h g n (pos 0)))) (not (beyond 16384 (valueAt h g n (negsuc 0)))) (p .1) in
-      (steps-fit (pos 0) (p .0) (q .0), steps-fit (negsuc 0) (p .0) (q .1))
 
 -- a gain of 2 or 4, where it is allowed
 gain-steps : (h g : ℕ) → 8 ≤ h → (g ≡ 1 → ⊥) → T (eqb g 1 || leb h 16 && (eqb g 2 || eqb g 4)) → T (stepAt h g)
@@ -120,6 +81,38 @@ gain-steps h g low n t =
     go s true b e f u = subst (λ (k : ℕ). T (stepAt h k)) (sym (eqb-true g 2 e)) (s .0)
     go s false true e f u = subst (λ (k : ℕ). T (stepAt h k)) (sym (eqb-true g 4 f)) (s .1)
     go s false false e f u = absurd u
+
+power-size : (n : ℕ) → n ≤ 15 → T (not (beyond (2 ^ 15) (power n)))
+unfolding beyond ofInt
+power-size n u = every-at (λ k. not (beyond (2 ^ 15) (power k))) 16 0 n tt (omega arith) (omega arith)
+
+-- ---- the estimates of a component that is accepted
+module _ (h g : ℕ) (x : Float) (fine : tooLarge x ≡ false) where
+  one-fits : 8 ≤ h → h ≤ 19 → Fits (unitsIn h (mantBits h - 1) x)
+  one-fits l u =
+      let unit = unitOf h (mantBits h - 1) in
+      fits (div binary32 x unit) (div-within largestSize 16 30 x unit (omega arith) fine (unit-reaches h l u) (lit≤ tt))
+
+  small-fits : 8 ≤ h → h ≤ 19 → Fits (scaledUp (mantBits h - 1) x)
+  small-fits l u =
+      let m = mant-bits h l u in
+      let p = power (mantBits h - 1) in
+      let s = is-false (beyond (2 ^ 15) p) (power-size (mantBits h - 1) (omega arith)) in
+      fits (mul binary32 x p) (mul-within largestSize (2 ^ 15) 30 (omega arith) x p fine s (lit≤ tt))
+
+  steps-fit : (k : ℤ) → let n = largeBits (mantBits h) g - 1 in T (reaches 15 (slopeAt h g n)) → T (not (beyond 1 (valueAt h g n k))) → Fits (stepsFrom h g n k x)
+  steps-fit k r v =
+      let n = largeBits (mantBits h) g - 1 in
+      let d = sub binary32 x (valueAt h g n k) in
+      let s = sub-within largestSize 1 15 (omega arith) x (valueAt h g n k) fine (is-false (beyond 1 (valueAt h g n k)) v) (lit≤ tt) in
+      fits (div binary32 d (slopeAt h g n)) (div-within (2 ^ 15) 15 30 d (slopeAt h g n) (omega arith) s r (lit≤ tt))
+
+  both-fit : T (stepAt h g) → let n = largeBits (mantBits h) g - 1 in Fits (stepsFrom h g n (pos 0) x) × Fits (stepsFrom h g n (negsuc 0) x)
+  both-fit t =
+      let n = largeBits (mantBits h) g - 1 in
+      let p = and-parts (reaches 15 (slopeAt h g n)) _ t in
+      let q = and-parts (not (beyond 1 (valueAt h g n (pos 0)))) (not (beyond 1 (valueAt h g n (negsuc 0)))) (p .1) in
+      (steps-fit (pos 0) (p .0) (q .0), steps-fit (negsuc 0) (p .0) (q .1))
 
 pub estimates-fit : (h g : ℕ) (x : Float) → allowed h g ≡ true → tooLarge x ≡ false → EstimatesFit h g x
 estimates-fit h g x a fine =

@@ -69,10 +69,15 @@ bestOf h g n lo hi x start est =
     probed h g n lo hi x (est +ℤ pos 1) (probed h g n lo hi x est (probed h g n lo hi x (est -ℤ pos 1) (record { k = start; e = infinity }))) .k
 
 -- ---- Gk 1: k of m bits, from -(2 ^ (m-1) - 1) to 2 ^ (m-1) - 1, where n = m-1
+-- the value of the level 1, and how many of it x is
+abbrev pub unitOf : ℕ → ℕ → Float
+unitOf h n = gaqRemap h 1 (div binary32 f1 (power n))
+
+abbrev pub unitsIn : ℕ → ℕ → Float → Float
+unitsIn h n x = div binary32 x (unitOf h n)
+
 unfoldable pub estOne : ℕ → ℕ → Float → ℤ
-estOne h n x =
-    let unit = gaqRemap h 1 (div binary32 f1 (power n)) in
-    cond (lt f0 unit) (roundAway (div binary32 x unit)) (pos 0)
+estOne h n x = cond (lt f0 (unitOf h n)) (roundAway (unitsIn h n x)) (pos 0)
 
 unfoldable pub bestOne : ℕ → ℕ → Float → ℤ
 bestOne h n x = bestOf h 1 n (negℤ (pos (2 ^ n - 1))) (pos (2 ^ n - 1)) x (pos 0) (estOne h n x)
@@ -82,21 +87,25 @@ unfoldable pub slopeAt : ℕ → ℕ → ℕ → Float
 slopeAt h g n = maxF (sub binary32 (valueAt h g n (minZ (pos 1) (pos (2 ^ n - 1)))) (valueAt h g n (pos 0))) f1e-9
 
 -- how many steps x lies from the level k
-abbrev pub stepsFrom : ℕ → ℕ → ℕ → ℤ → Float → ℤ
-stepsFrom h g n k x = roundAway (div binary32 (sub binary32 x (valueAt h g n k)) (slopeAt h g n))
+abbrev pub stepsFrom : ℕ → ℕ → ℕ → ℤ → Float → Float
+stepsFrom h g n k x = div binary32 (sub binary32 x (valueAt h g n k)) (slopeAt h g n)
 
 unfoldable pub estLarge : ℕ → ℕ → ℕ → Float → ℤ
 estLarge h g n x =
     cond (le f0 x)
-    (clampZ (pos 0) (pos (2 ^ n - 1)) (stepsFrom h g n (pos 0) x))
-    (clampZ (negℤ (pos (2 ^ n))) (negsuc 0) (negsuc 0 +ℤ stepsFrom h g n (negsuc 0) x))
+    (clampZ (pos 0) (pos (2 ^ n - 1)) (roundAway (stepsFrom h g n (pos 0) x)))
+    (clampZ (negℤ (pos (2 ^ n))) (negsuc 0) (negsuc 0 +ℤ roundAway (stepsFrom h g n (negsuc 0) x)))
 
 unfoldable pub bestLarge : ℕ → ℕ → ℕ → Float → ℤ
 bestLarge h g n x = bestOf h g n (negℤ (pos (2 ^ n))) (pos (2 ^ n - 1)) x (estLarge h g n x) (estLarge h g n x)
 
 -- ---- Gk 2 and 4: a small codeword s
+-- how many steps of it x is
+abbrev pub scaledUp : ℕ → Float → Float
+scaledUp n x = mul binary32 x (power n)
+
 unfoldable pub smallOf : ℕ → Float → ℤ
-smallOf n x = roundAway (mul binary32 x (power n))
+smallOf n x = roundAway (scaledUp n x)
 
 -- s lies strictly between the tag and its opposite, in b bits
 abbrev pub isSmall : ℕ → ℤ → Bool

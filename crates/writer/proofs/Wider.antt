@@ -3,7 +3,7 @@ use Prim.Native.Nat.{ℕ, _+_, _*_, _≤_, _<_}
 use mathlib.Core.Path.{_≡_, refl, sym, _∙_, subst}
 use mathlib.Core.Bool.{Bool, true, false, cond}
 use mathlib.Core.List.{List}
-use mathlib.Core.Logic.{_⊎_, inl, inr}
+use mathlib.Core.Logic.{inl, inr}
 use native.Mathlib.Omega.{arith}
 use borrow.Author.Tests.{ne-eqb, eqb-true}
 use lib.Dec.{eqb, leb, lit<}
@@ -11,7 +11,7 @@ use lib.ListN.{length}
 use lib.Ieee.{Float}
 use Rattle.answers.specs.Causes as cause
 use Rattle.bits.specs.Bits.{posOf, bytesWith}
-use Rattle.levels.specs.Component.{Widened}
+use Rattle.levels.specs.Component.{Later, Widened}
 use Rattle.levels.proofs.Wider.{made-of}
 use Rattle.channel.specs.Bins.{someOver}
 use Rattle.planner.specs.declared.Plan.{Plan}
@@ -22,23 +22,20 @@ use Rattle.writer.specs.declared.ChannelWrite.{ChannelWrite}
 use Rattle.writer.specs.Written.{fieldOf, writeCauseUpTo, channelWriteUpTo, channelWrittenUpTo, writeNumber}
 
 -- ---- the writer's own causes come behind the planner's
-abbrev Late : ℕ → Type 0
-Late n = (n ≡ cause.none) ⊎ (cause.component < n)
-
 -- rest where the planner's cause is 0
 abbrev behind : ℕ → ℕ → ℕ
 behind rest c = cond (eqb c 0) rest c
 
-own-late : (fits room : Bool) → Late (cond fits (cond room cause.none cause.outputFull) cause.planMisfit)
+own-late : (fits room : Bool) → Later (cond fits (cond room cause.none cause.outputFull) cause.planMisfit)
 own-late true true = inl refl
 own-late true false = inr (lit< tt)
 own-late false room = inr (lit< tt)
 
-not-five : (n : ℕ) → Late n → n ≡ cause.component → ⊥
+not-five : (n : ℕ) → Later n → n ≡ cause.component → ⊥
 not-five n (inl z) e = omega arith
 not-five n (inr z) e = omega arith
 
-module _ (rest : ℕ) (late : Late rest) where
+module _ (rest : ℕ) (late : Later rest) where
   behind-five : (c : ℕ) → c ≡ cause.component → behind rest c ≡ cause.component
   behind-five c e = rw e
 
@@ -49,7 +46,7 @@ module _ (rest : ℕ) (late : Late rest) where
       go true e = absurd (not-five rest late e)
       go false e = e
 
-  behind-late : (c : ℕ) → Late c → Late (behind rest c)
+  behind-late : (c : ℕ) → Later c → Later (behind rest c)
   behind-late c (inl z) = rw z late
   behind-late c (inr z) = rw (ne-eqb c 0 (λ e. omega arith)) (inr z)
 
@@ -78,9 +75,9 @@ module _ (p : Plan) (row : List ℕ) (start end : ℕ) (x : List Float) (out : L
   unfolding channelWriteUpTo channelWrittenUpTo writeCauseUpTo
   write-widened l l′ w =
       let rest = cond (planFits p row start end x) (cond (leb (at + totalOf p) (8 * length out)) cause.none cause.outputFull) cause.planMisfit in
-      let late : Late rest = own-late (planFits p row start end x) (leb (at + totalOf p) (8 * length out)) in
+      let late : Later rest = own-late (planFits p row start end x) (leb (at + totalOf p) (8 * length out)) in
       let over = someOver (beyondAt l′ row x) start end in
       made-of (λ (n : ℕ). n) (λ (a : ChannelWrite × List ℕ). writeNumber (a .0)) answer
-      (λ c e. number-is c ∙ e) (λ c e. sym (number-is c) ∙ e) (λ c h. subst Late (sym (number-is c)) h) over _ _
+      (λ c e. number-is c ∙ e) (λ c e. sym (number-is c) ∙ e) (λ c h. subst Later (sym (number-is c)) h) over _ _
       (made-of (λ (n : ℕ). n) (λ (n : ℕ). n) (behind rest) (behind-five rest late) (five-only rest late) (behind-late rest late) over
       (causeUpTo l row start end x) (causeUpTo l′ row start end x) (cause-widened l l′ w row start end x))
