@@ -69,7 +69,7 @@ bestOf h g n lo hi x start est =
     probed h g n lo hi x (est +ℤ pos 1) (probed h g n lo hi x est (probed h g n lo hi x (est -ℤ pos 1) (record { k = start; e = infinity }))) .k
 
 -- ---- Gk 1: k of m bits, from -(2 ^ (m-1) - 1) to 2 ^ (m-1) - 1, where n = m-1
--- the value of the level 1, and how many of it x is
+-- the value of the level 1, and x in such units
 abbrev pub unitOf : ℕ → ℕ → Float
 unitOf h n = gaqRemap h 1 (div binary32 f1 (power n))
 
@@ -86,7 +86,7 @@ bestOne h n x = bestOf h 1 n (negℤ (pos (2 ^ n - 1))) (pos (2 ^ n - 1)) x (pos
 unfoldable pub slopeAt : ℕ → ℕ → ℕ → Float
 slopeAt h g n = maxF (sub binary32 (valueAt h g n (minZ (pos 1) (pos (2 ^ n - 1)))) (valueAt h g n (pos 0))) f1e-9
 
--- how many steps x lies from the level k
+-- the steps from the level k to x
 abbrev pub stepsFrom : ℕ → ℕ → ℕ → ℤ → Float → Float
 stepsFrom h g n k x = div binary32 (sub binary32 x (valueAt h g n k)) (slopeAt h g n)
 
@@ -100,7 +100,7 @@ unfoldable pub bestLarge : ℕ → ℕ → ℕ → Float → ℤ
 bestLarge h g n x = bestOf h g n (negℤ (pos (2 ^ n))) (pos (2 ^ n - 1)) x (estLarge h g n x) (estLarge h g n x)
 
 -- ---- Gk 2 and 4: a small codeword s
--- how many steps of it x is
+-- x in steps of small codes
 abbrev pub scaledUp : ℕ → Float → Float
 scaledUp n x = mul binary32 x (power n)
 
