@@ -1,22 +1,23 @@
 -- A book in component order: where its numbers are; its search is the search through the book. Assumes nothing.
-use Prim.Native.Nat.{ℕ, zero, suc, _+_, _-_, _*_, _/_, _%_, _<_, _≤_}
+use Prim.Native.Nat.{ℕ, zero, suc, _+_, _-_, _*_, _/_, _%_, _^_, _<_, _≤_}
 use mathlib.Core.Path.{_≡_, refl, ap, sym, _∙_}
-use mathlib.Core.Bool.{false}
+use mathlib.Core.Bool.{false, true≢false}
 use mathlib.Core.List.{List, [], _∷_, _++_}
 use native.Mathlib.Nat.{zero-mul, suc-mul, mul-comm, mod-lt, mod-add-div, div-lt-iff-lt-mul}
 use native.Mathlib.Omega.{arith}
 use lib.IntN.{ℤ, pos}
 use lib.ListN.{length, length-append, length-map, getD, take, drop, List·getD-append}
-use lib.Dec.{T}
+use lib.Signed.{mag}
 use lib.Ieee.Bits.{nanBits-is}
 use lib.Seq.{getD-append-add, getD-drop}
 use lib.Ieee.{Float, nan, inf, fin, binary32, ofBits, nanBits, isNan}
 use Rattle.tables.specs.Tables.{book}
+use Rattle.levels.specs.Component.{beyond}
 use Rattle.levels.specs.Value.{f0, q15}
 use Rattle.books.specs.Fractions.{column, byComponent, floats, FractionsOf}
 use Rattle.books.specs.Books.{termOf, sumTo, distanceOf, searchFrom, nearestIn, vectorsOf, searchOf}
 use Rattle.books.specs.Work.{distanceBy, distanceIn, NoNans, placeOf, FractionsLoaded}
-use Rattle.books.proofs.First.{real, entry-real}
+use Rattle.books.proofs.First.{entry-most}
 use Rattle.books.proofs.Laws.{HasBook}
 
 -- ---- the f32 at a place
@@ -94,20 +95,21 @@ module _ (n : ℕ) (b : List ℤ) where
       rw (e0, e1, e2, e3, e4, e5)
 
 -- ---- bit patterns that show a book's fractions are no NaN's
-number-bits : (u : ℕ) (x : Float) → T (real x) → ofBits binary32 u ≡ x → nanBits binary32 u ≡ false
-unfolding isNan
-number-bits u nan r e = absurd r
-number-bits u (inf s) r e = nanBits-is binary32 u ∙ rw e
-number-bits u (fin s m g) r e = nanBits-is binary32 u ∙ rw e
+number-bits : (u n : ℕ) (x : Float) → beyond n x ≡ false → ofBits binary32 u ≡ x → nanBits binary32 u ≡ false
+unfolding isNan beyond
+number-bits u n nan r e = absurd (true≢false r)
+number-bits u n (inf s) r e = absurd (true≢false r)
+number-bits u n (fin s m g) r e = nanBits-is binary32 u ∙ rw e
 
-pub no-nans : (t : List ℕ) (n : ℕ) (b : List ℤ) → 0 < n → length t ≤ n * 6 → floats t ≡ byComponent n b → NoNans t
-no-nans t n b z l e =
+pub no-nans : (t : List ℕ) (n : ℕ) (b : List ℤ) → ((i : ℕ) → mag (getD b i (pos 0)) < 2 ^ 15) → 0 < n → length t ≤ n * 6 → floats t ≡ byComponent n b → NoNans t
+no-nans t n b fits z l e =
     record {
       each = λ i h.
           let j : i / n < 6 = div-lt-iff-lt-mul z .1 (omega arith) in
           let p : i ≡ i % n + i / n * n = sym (mod-add-div i n) ∙ rw (mul-comm n (i / n)) in
           let q = component n b (i / n) (i % n) i j (mod-lt i z) p in
-          number-bits (getD t i 0) (q15 (getD b (i % n * 6 + i / n) (pos 0))) (entry-real _) (sym (float-at t i h) ∙ rw e q);
+          let k = i % n * 6 + i / n in
+          number-bits (getD t i 0) 1 (q15 (getD b k (pos 0))) (entry-most (getD b k (pos 0)) (fits k)) (sym (float-at t i h) ∙ rw e q);
     }
 
 -- ---- the search

@@ -6,13 +6,13 @@ use mathlib.Core.List.{List}
 use mathlib.Core.Logic.{_⊎_, inl, inr}
 use native.Mathlib.Nat.{mul-pos, not-le-of-lt, lt-of-not-le, eq-or-lt-of-le, le-of-lt, le-antisymm, add-zero, add-suc, suc-add}
 use native.Mathlib.Omega.{arith}
-use lib.Dec.{T, ltb, lit<, lit≤}
+use lib.Dec.{T, lit<, lit≤}
 use lib.IntN.{ℤ, pos, negsuc}
 use lib.Pow.{pow-add, pow-mono, pow-pos}
 use lib.Signed.{mag}
 use lib.ListN.{getD, length}
-use lib.Ieee.{Float, nan, inf, fin, Format, binary32, prec, emax, low, up, down, unlike, odd, units, round, sum, add, sub, mul, div, ofInt, ofBits, lt}
-use lib.Ieee.Fits.{down-pos, round-is}
+use lib.Ieee.{Float, nan, inf, fin, binary32, up, down, round, sum, add, sub, mul, ofBits, lt}
+use lib.Ieee.Fits.{down-pos}
 use lib.Ieee.Positive.{through}
 use lib.Ieee.Scale.{finite}
 use borrow.Author.Tests.{ltb-true, ltb-false, lt-ltb, le-ltb, le-leb}
@@ -27,46 +27,9 @@ use Rattle.books.specs.Books.{termOf, sumTo, distanceOf, searchFrom, nea
 use Rattle.books.proofs.Quotients.{positive-exact, negative-exact}
 use Rattle.answers.specs.declared.SizeResult.the-variants.{Value}
 
--- ---- the fractions of a book are no NaN
-abbrev pub real : Float → Bool
-real nan = false
-real (inf s) = true
-real (fin s m e) = true
-
-odd-real : (d : ℕ) (s : Bool) (q k l : ℕ) → T (real (odd d s q k l))
-unfolding odd
-odd-real d s zero k l = tt
-odd-real d s (suc q) k l = tt
-
-units-real : (f : Format) (s : Bool) (q k : ℕ) → T (real (units f s q k))
-unfolding units
-units-real f s q k = go (ltb (q * 2 ^ k) (2 ^ (low f + suc (emax f))))
-  where
-    go : (b : Bool) → T (real (cond b (odd (suc (prec f)) s q k (low f)) (inf s)))
-    go true = odd-real (suc (prec f)) s q k (low f)
-    go false = tt
-
-round-real : (f : Format) (s : Bool) (a c : ℕ) → T (real (round f s a c))
-round-real f s a c = subst (λ (z : Float). T (real z)) (sym (round-is f s a c)) (units-real f s _ _)
-
-quotient-real : (x : Float) → T (real x) → T (real (div binary32 x (fin false 1 (pos 15))))
-unfolding div
-quotient-real nan r = absurd r
-quotient-real (inf s) r = tt
-quotient-real (fin s m e) r = round-real binary32 (unlike s false) (m * up e * 1) (1 * 2 ^ 15 * down e)
-
-int-real : (z : ℤ) → T (real (ofInt binary32 z))
-unfolding ofInt
-int-real (pos n) = round-real binary32 false n 1
-int-real (negsuc n) = round-real binary32 true (suc n) 1
-
-pub entry-real : (z : ℤ) → T (real (q15 z))
-unfolding q15 ofBits
-entry-real z = quotient-real (ofInt binary32 z) (int-real z)
-
 -- ---- no distance is a NaN or infinite: each step of its sum has a bound
 -- a fraction of a book is 1 at most in size
-entry-most : (z : ℤ) → mag z < 2 ^ 15 → beyond 1 (q15 z) ≡ false
+pub entry-most : (z : ℤ) → mag z < 2 ^ 15 → beyond 1 (q15 z) ≡ false
 entry-most (pos n) h = value-within (q15 (pos n)) false n 32768 1 (lit< tt) (positive-exact n (omega arith)) (omega arith)
 entry-most (negsuc n) h = value-within (q15 (negsuc n)) true (suc n) 32768 1 (lit< tt) (negative-exact n (omega arith)) (omega arith)
 

@@ -2,14 +2,14 @@
 use Prim.Native.Nat.{ℕ, _-_, _^_, _≤_, _<_}
 use native.Mathlib.Omega.{arith}
 use lib.Dec.{lit<}
-use lib.Ieee.{Float, binary32, sub, div, lt, le}
+use lib.Ieee.{Float, lt, le}
 use lib.IntN.{ℤ, pos, negsuc, negℤ, natAbs, _+ℤ_}
 use lib.Pow.{pow-pos}
 use lib.Signed.{mag}
-use Rattle.levels.specs.Value.{f0, f1, power, gaqRemap}
+use Rattle.levels.specs.Value.{f0}
 use Rattle.levels.proofs.Signed.{by-test}
 use Rattle.levels.proofs.Sizes.{mag-abs}
-use Rattle.quantiser.specs.Quantise.{clampZ, valueAt, estOne, bestOne, slopeAt, estLarge, bestLarge}
+use Rattle.quantiser.specs.Quantise.{clampZ, unitOf, unitsIn, estOne, bestOne, stepsFrom, estLarge, bestLarge}
 use Rattle.quantiser.specs.Round.{roundAway}
 use Rattle.quantiser.proofs.Ints.{top-under, bottom-under, clamp-small, clamp-abs}
 use Rattle.quantiser.proofs.Probing.{best-keeps}
@@ -19,8 +19,7 @@ use Rattle.quantiser.proofs.Signs.{round-small}
 pub est-one-small : (h n : ℕ) (x : Float) → mag (estOne h n x) < 2 ^ 40
 unfolding estOne
 est-one-small h n x =
-    let unit = gaqRemap h 1 (div binary32 f1 (power n)) in
-    by-test (λ (z : ℤ). mag z < 2 ^ 40) (lt f0 unit) (roundAway (div binary32 x unit)) (pos 0) (let l = round-small (div binary32 x unit) in omega arith) (lit< tt)
+    by-test (λ (z : ℤ). mag z < 2 ^ 40) (lt f0 (unitOf h n)) (roundAway (unitsIn h n x)) (pos 0) (let l = round-small (unitsIn h n x) in omega arith) (lit< tt)
 
 pub best-one-abs : (h n : ℕ) (x : Float) → natAbs (bestOne h n x) ≤ 2 ^ n - 1
 unfolding bestOne
@@ -35,8 +34,8 @@ best-one-small h n x = let a = best-one-abs h n x in let m = mag-abs (bestOne h 
 pub est-large-small : (h g n : ℕ) (x : Float) → mag (estLarge h g n x) < 2 ^ n
 unfolding estLarge
 est-large-small h g n x =
-    let up = roundAway (div binary32 (sub binary32 x (valueAt h g n (pos 0))) (slopeAt h g n)) in
-    let down = negsuc 0 +ℤ roundAway (div binary32 (sub binary32 x (valueAt h g n (negsuc 0))) (slopeAt h g n)) in
+    let up = roundAway (stepsFrom h g n (pos 0) x) in
+    let down = negsuc 0 +ℤ roundAway (stepsFrom h g n (negsuc 0) x) in
     by-test (λ (z : ℤ). mag z < 2 ^ n) (le f0 x) (clampZ (pos 0) (pos (2 ^ n - 1)) up) (clampZ (negℤ (pos (2 ^ n))) (negsuc 0) down)
     (clamp-small (pos 0) (pos (2 ^ n - 1)) (2 ^ n) (pow-pos n) (top-under n) up)
     (clamp-small (negℤ (pos (2 ^ n))) (negsuc 0) (2 ^ n) (bottom-under n) (pow-pos n) down)

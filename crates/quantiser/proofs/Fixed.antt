@@ -16,7 +16,7 @@ use Rattle.levels.specs.declared.Remap.{Remap}
 use Rattle.levels.proofs.Remapping.{remap-by}
 use Rattle.levels.proofs.Scaling.{scaled-divided}
 use Rattle.levels.proofs.Signed.{by-test, halves, small-width, large-width}
-use Rattle.quantiser.specs.Quantise.{minZ, valueAt, slopeAt}
+use Rattle.quantiser.specs.Quantise.{minZ, valueAt, unitOf, slopeAt}
 use Rattle.quantiser.specs.Work.{exponentOf, levelBy, unitBy, stepsOf, IsSteps}
 use Rattle.quantiser.specs.declared.Steps.{Steps}
 
@@ -51,7 +51,7 @@ module _ (h g n : ℕ) (l : 1 ≤ n) (u : n ≤ 16) where
 pub record Fixed (st : Steps) : Type 0 where
   pub n-is : st .n ≡ st .large - 1
   pub value-is : (k : ℤ) → levelBy (st .remap) (st .part) k ≡ valueAt (st .hebap) (st .gk) (st .n) k
-  pub unit-one : st .gk ≡ 1 → st .unit ≡ gaqRemap (st .hebap) 1 (div binary32 f1 (power (st .n)))
+  pub unit-one : st .gk ≡ 1 → st .unit ≡ unitOf (st .hebap) (st .n)
   pub unit-large : (st .gk ≡ 1 → ⊥) → st .unit ≡ slopeAt (st .hebap) (st .gk) (st .n)
   pub zero-is : st .zero ≡ valueAt (st .hebap) (st .gk) (st .n) (pos 0)
   pub below-is : st .below ≡ valueAt (st .hebap) (st .gk) (st .n) (negsuc 0)

@@ -10,6 +10,7 @@ use denote.Ref.{now}
 use lib.Ieee.{inf, ofBits, nanBits}
 use lib.ListN.{length}
 use Rattle.tables.specs.Tables.{book}
+use Rattle.tables.proofs.Rules.{book-fits}
 use Rattle.books.specs.Books.{searchFrom}
 use Rattle.books.specs.Fractions.{floats}
 use Rattle.books.specs.Work.{NoNans, distanceIn}
@@ -49,7 +50,7 @@ loop-holds c =
       omega arith,
       omega arith,
       k .fours,
-      no-nans (now (a .t)) n (book (a .hebap)) (k .some) (omega arith) (rw e (pre .2)),
+      no-nans (now (a .t)) n (book (a .hebap)) (λ i. book-fits (a .hebap) i (pre .0) (pre .1)) (k .some) (omega arith) (rw e (pre .2)),
       ap (λ (m : ℕ). searchFrom (distanceIn (now (a .x)) (floats (now (a .t))) n) m 0 0 (inf false)) (sub-zero n),
     )
 

@@ -9,8 +9,8 @@ use lib.Ieee.{Float, binary32, div, lt}
 use lib.IntN.{ℤ, pos}
 use mir.Syntax.{w64}
 use mir.Val.{toZ}
-use Rattle.levels.specs.Value.{f0, f1, power, gaqRemap}
-use Rattle.quantiser.specs.Quantise.{estOne, bestOne}
+use Rattle.levels.specs.Value.{f0}
+use Rattle.quantiser.specs.Quantise.{unitOf, estOne, bestOne}
 use Rattle.quantiser.specs.Round.{roundAway}
 use Rattle.quantiser.proofs.Bounds.{est-one-small}
 use Rattle.quantiser.proofs.Fixed.{Fixed, fixed}
@@ -19,7 +19,7 @@ use Rattle.levels.proofs.Common.{chosen}
 use Rattle.quantiser.proofs.pick.search_one.Statement.{statement}
 use Rattle.quantiser.proofs.pick.search_one.Tie as tie
 
-est-one : (h n : ℕ) (x unit : Float) (r : ℤ) → unit ≡ gaqRemap h 1 (div binary32 f1 (power n))
+est-one : (h n : ℕ) (x unit : Float) (r : ℤ) → unit ≡ unitOf h n
     → ((lt f0 unit ≡ true) × (r ≡ roundAway (div binary32 x unit))) ⊎ ((lt f0 unit ≡ false) × (r ≡ pos 0)) → r ≡ estOne h n x
 unfolding estOne
 est-one h n x unit r e c = rw (← e) (chosen (λ t. cond t (roundAway (div binary32 x unit)) (pos 0)) (lt f0 unit) r c)
