@@ -12,7 +12,7 @@
 #define SIZE (1 << 20)
 #define PAINT 0xa5
 
-static uint8_t hebap[256], field[4096], mode, gains[FATHRUGG_GAINS];
+static uint8_t hebap[256], field[4096], pages[FATHRUGG_PAGES_BYTES], mode, gains[FATHRUGG_GAINS];
 static float x[1536], values[1536];
 static int32_t exact[1536];
 static uint16_t indices[256];
@@ -22,7 +22,7 @@ static int call;
 
 static void *run(void *nothing)
 {
-    size_t byte = 0, index;
+    size_t byte = 0, index, length;
     uint32_t bit = 0;
     float six[6], err;
     switch (call) {
@@ -31,19 +31,20 @@ static void *run(void *nothing)
     case 3: fathrugg_read_aht_channel(field, sizeof field, &byte, &bit, hebap, 256, 0, 256, values, 1536, exact, 1536, indices, 256, &mode, gains, &count, &bits); break;
     case 4: fathrugg_vq_search(7, x, &index); break;
     case 5: fathrugg_quantise_bin(12, 2, x, six, &bits, &err); break;
+    case 6: fathrugg_print_pages(mode, gains, count, payload, hebap, 256, 0, 256, x, 1536, pages, sizeof pages, &length); break;
     }
     return nothing;
 }
 
 int main(void)
 {
-    static const char *names[] = {"nothing", "plan", "write", "read", "search", "quantise_bin"};
+    static const char *names[] = {"nothing", "plan", "write", "read", "search", "quantise_bin", "print_pages"};
     size_t own = 0;
     for (int i = 0; i < 256; i++)
         hebap[i] = (uint8_t)(i % 20);
     for (int i = 0; i < 1536; i++)
         x[i] = (float)(i % 64 - 32) / 40.0f;
-    for (call = 0; call <= 5; call++) {
+    for (call = 0; call <= 6; call++) {
         void *stack;
         pthread_attr_t attr;
         pthread_t thread;

@@ -11,8 +11,8 @@
  * have a fixed length and no number behind them.
  *
  * Bins. A channel has the bins start to end - 1, with end at most 256. hebap is the row: a number 0 to 19 for each
- * bin. All buffers begin at bin 0, also where start is above 0: bin k has the place k of hebap and indices, and the
- * six places from 6 * k on of x, values and exact.
+ * bin. Buffers with places for bins begin at bin 0, also where start is above 0: bin k has the place k of hebap and
+ * indices, and the six places from 6 * k on of x, values and exact.
  *
  * Gains. Gk is 1, 2 or 4. gains has 256 bytes: Gk of each bin that has a gain of its own in the mode (hebap 8 to 11
  * in mode 1, 8 to 16 in modes 2 and 3, none in mode 0), in bin order, count of them.
@@ -44,7 +44,7 @@ extern "C" {
 /* ---- Version. */
 
 #define FATHRUGG_VERSION_MAJOR 0
-#define FATHRUGG_VERSION_MINOR 3
+#define FATHRUGG_VERSION_MINOR 4
 #define FATHRUGG_VERSION_PATCH 0
 #define FATHRUGG_VERSION (10000 * FATHRUGG_VERSION_MAJOR + 100 * FATHRUGG_VERSION_MINOR + FATHRUGG_VERSION_PATCH)
 
@@ -61,7 +61,8 @@ enum fathrugg_refusal {
     FATHRUGG_HEBAP_ABOVE_19 = 4,   /* a hebap is above 19 */
     FATHRUGG_COMPONENT = 5,        /* a vector's component is NaN, infinite or above 16384 in size */
     FATHRUGG_PLAN_MISFIT = 6,      /* the plan does not fit the row and the vectors */
-    FATHRUGG_OUTPUT_FULL = 7,      /* the output has too few bits from the position on, or it is past its end */
+    FATHRUGG_OUTPUT_FULL = 7,      /* the output is too short from the position on, or for the pages, or the position
+                                      is past its end */
     FATHRUGG_INPUT_ENDS = 8,       /* the input runs out, or the position is past its end */
     FATHRUGG_GROUP_WORD = 9,       /* a group word of gains is above 26 */
     FATHRUGG_UNUSED_CODE = 10,     /* an unused code of the last group word is not 0 */
@@ -81,7 +82,7 @@ static inline const char *fathrugg_refusal_text(unsigned number)
     case FATHRUGG_HEBAP_ABOVE_19: return "a hebap is above 19";
     case FATHRUGG_COMPONENT: return "a vector's component is NaN, infinite or above 16384 in size";
     case FATHRUGG_PLAN_MISFIT: return "the plan does not fit the row and the vectors";
-    case FATHRUGG_OUTPUT_FULL: return "the output has too few bits from the position on, or the position is past its end";
+    case FATHRUGG_OUTPUT_FULL: return "the output is too short from the position on, or for the pages, or the position is past its end";
     case FATHRUGG_INPUT_ENDS: return "the input runs out, or the position is past its end";
     case FATHRUGG_GROUP_WORD: return "a group word of gains is above 26";
     case FATHRUGG_UNUSED_CODE: return "an unused code of the last group word is not 0";
@@ -99,6 +100,7 @@ static inline const char *fathrugg_refusal_text(unsigned number)
 #define FATHRUGG_GAINS 256        /* the bytes of gains */
 #define FATHRUGG_FIELD_BITS 31152 /* the most bits of a field, with the two of its mode */
 #define FATHRUGG_FIELD_BYTES 3894 /* the same as bytes; one more where a field begins inside a byte */
+#define FATHRUGG_PAGES_BYTES 6500 /* the most bytes of a plan's pages: two of 3250 */
 
 /* ---- Planning, writing, reading. */
 
@@ -150,6 +152,26 @@ uint8_t fathrugg_read_aht_channel(const uint8_t *src, size_t len, size_t *byte, 
                                   size_t start, size_t end, float *values, size_t nvalues, int32_t *exact, size_t nexact,
                                   uint16_t *indices, size_t nindices, uint8_t *mode, uint8_t gains[FATHRUGG_GAINS], size_t *count,
                                   uint32_t *bits);
+
+/* ---- Pages. */
+
+/*
+ * Prints a plan on pages, as ASCII text, to the front of the output. A line has 64 characters, then byte 10. It shows
+ * four bins, in order from start on, each in 12 characters: the bin in 3, its hebap in 2, its Gk in 1 and its bits in
+ * 3, right-aligned, with a space between; a space between bins too, and spaces to the end of the line. Bin 0 of hebap
+ * 8 at Gk 2, with 12 bits, and bin 1 of hebap 0 are "  0  8 2  12   1  0 -   0", then 39 spaces.
+ * A bin without a gain of its own in the mode (hebap 0, a book, a scalar bin outside the mode's range) has a dash for
+ * Gk. The bits are those of the bin's codes or index, 0 for hebap 0; gain words are not among them. A page has 50
+ * lines, 3250 bytes, and each 200 bins begun have one; lines of 64 spaces fill the last. Without bins there is no page.
+ *   mode, gains, count, payload  a plan that fits, as for fathrugg_write_aht_channel
+ *   hebap, x   as they were planned; bins and components as above
+ *   out        len counts its bytes, at least those of the pages; those behind are kept
+ *   length     the bytes of the pages: 0, 3250 or 6500
+ * Refuses with 1 to 6 as fathrugg_write_aht_channel, then 7, where the output is shorter than the pages.
+ */
+uint8_t fathrugg_print_pages(uint8_t mode, const uint8_t gains[FATHRUGG_GAINS], size_t count, uint32_t payload,
+                             const uint8_t *hebap, size_t bins, size_t start, size_t end, const float *x,
+                             size_t components, uint8_t *out, size_t len, size_t *length);
 
 /* ---- Search and quantiser. */
 

@@ -197,6 +197,124 @@ static void channel(void)
     EXPECT(out[0] == 0xb6 && out[1] == 0 && byte == 1 && bit == 4);
 }
 
+struct plan {
+    uint8_t mode, gk[FATHRUGG_GAINS];
+    size_t count;
+    uint32_t payload;
+};
+
+struct channel {
+    const uint8_t *hebap;
+    size_t bins;
+    const float *x;
+    size_t components, start, end;
+};
+
+/* What is lent for pages, with room behind them, and what should stand there. */
+static uint8_t paper[FATHRUGG_PAGES_BYTES + 100], wanted[sizeof paper];
+
+static uint8_t print(const struct plan *p, const struct channel *c, size_t len, size_t *length)
+{
+    memset(paper, '#', sizeof paper);
+    return fathrugg_print_pages(p->mode, p->gk, p->count, p->payload, c->hebap, c->bins, c->start, c->end, c->x,
+                                c->components, paper, len, length);
+}
+
+/* Prints to outputs as long as the pages and longer, and to shorter ones. These lines begin the pages: spaces fill
+   each to 64 characters, lines of spaces the last page to 50 lines. */
+static void printed(const struct plan *p, const struct channel *c, const char *const *lines, size_t count, int line)
+{
+    size_t bytes = 0, length = 9;
+    memset(wanted, '#', sizeof wanted);
+    for (size_t i = 0; i < count || i % 50 > 0; i++, bytes += 65) {
+        memset(wanted + bytes, ' ', 64);
+        if (i < count) memcpy(wanted + bytes, lines[i], strlen(lines[i]));
+        wanted[bytes + 64] = 10;
+    }
+    const size_t longer[3] = {bytes, bytes + 1, sizeof paper}, shorter[3] = {0, bytes / 2, bytes - 1};
+    for (int i = 0; i < 3; i++) {
+        expect(print(p, c, longer[i], &length) == FATHRUGG_OK && length == bytes, line);
+        expect(memcmp(paper, wanted, sizeof paper) == 0, line);
+    }
+    memset(wanted, '#', sizeof wanted);
+    length = 9;
+    for (int i = 0; bytes > 0 && i < 3; i++) {
+        expect(print(p, c, shorter[i], &length) == FATHRUGG_OUTPUT_FULL && length == 9, line);
+        expect(memcmp(paper, wanted, sizeof paper) == 0, line);
+    }
+}
+
+#define PRINTED(p, c, lines) printed(&(p), &(c), lines, sizeof lines / sizeof *lines, __LINE__)
+
+static void pages(void)
+{
+    /* the channel of docs/FORMAT.md, Desk text: its plan, and two that fit too; at Gk 1 a code has 3 bits, at Gk 4
+       those of 0.25 and -0.25 have 4, that of 0 has one */
+    const uint8_t row[2] = {8, 0};
+    const float quarters[12] = {0.25f, 0.0f, -0.25f};
+    const struct channel tie = {row, 2, quarters, 12, 0, 2};
+    const struct plan best = {1, {2}, 1, 13}, at_4 = {3, {4}, 1, 17}, at_1 = {0, {0}, 0, 18};
+    const char *const with_2[1] = {"  0  8 2  12   1  0 -   0"}, *const with_4[1] = {"  0  8 4  12   1  0 -   0"};
+    const char *const without[1] = {"  0  8 -  18   1  0 -   0"};
+    PRINTED(best, tie, with_2);
+    PRINTED(at_4, tie, with_4);
+    PRINTED(at_1, tie, without);
+
+    /* five bins from bin 2 on. Gk 1: 6 * 3 bits, a book's 4, 6 * 7, 6 * 12 and 6 * 11. Bin 4 has one component of a
+       large code, 5 * 6 + 12 bits at Gk 2 and 5 * 5 + 12 at Gk 4; bin 6 has six, 6 * (9 + 11) at Gk 4 */
+    const uint8_t later[7] = {20, 255, 8, 3, 12, 17, 16};
+    float x[42] = {0};
+    x[4 * 6 + 2] = 1.0f;
+    for (int k = 0; k < 6; k++) x[6 * 6 + k] = -1.0f;
+    const struct channel five = {later, 7, x, 42, 2, 7};
+    const struct plan mode_1 = {1, {2}, 1, 1 + 12 + 4 + 42 + 72 + 66};
+    const struct plan mode_2 = {2, {4, 4, 1}, 3, 3 + 6 + 4 + 37 + 72 + 66};
+    const struct plan mode_3 = {3, {1, 2, 4}, 3, 5 + 18 + 4 + 42 + 72 + 120};
+    const char *const in_1[2] = {"  2  8 2  12   3  3 -   4   4 12 -  42   5 17 -  72", "  6 16 -  66"};
+    const char *const in_2[2] = {"  2  8 4   6   3  3 -   4   4 12 4  37   5 17 -  72", "  6 16 1  66"};
+    const char *const in_3[2] = {"  2  8 1  18   3  3 -   4   4 12 2  42   5 17 -  72", "  6 16 4 120"};
+    PRINTED(mode_1, five, in_1);
+    PRINTED(mode_2, five, in_2);
+    PRINTED(mode_3, five, in_3);
+
+    /* 200 bins fill a page, 201 begin another; six codes of 16 bits each */
+    uint8_t high[FATHRUGG_BINS];
+    static const float zeros[FATHRUGG_COMPONENTS];
+    memset(high, 19, sizeof high);
+    for (int start = 0; start <= 56; start++) {
+        const struct channel many = {high, FATHRUGG_BINS, zeros, FATHRUGG_COMPONENTS, (size_t)start, 256};
+        const struct plan plain = {0, {0}, 0, 96 * (256 - (uint32_t)start)};
+        char text[64][64] = {{0}};
+        const char *lines[64];
+        for (int i = 0; i < 256 - start; i++) {
+            lines[i / 4] = text[i / 4];
+            sprintf(text[i / 4] + strlen(text[i / 4]), "%s%3d 19 -  96", i % 4 > 0 ? " " : "", start + i);
+        }
+        printed(&plain, &many, lines, (256 - (size_t)start + 3) / 4, __LINE__);
+    }
+
+    /* no bins, no page: not a byte of the output is needed */
+    const struct channel none = {row, 2, quarters, 12, 2, 2};
+    const struct plan empty = {3, {0}, 0, 0};
+    printed(&empty, &none, NULL, 0, __LINE__);
+
+    /* each refusal where later ones hold too; then again with room for the pages */
+    const struct plan misfit = {1, {2}, 1, 12};
+    const uint8_t unknown[2] = {8, 20};
+    const float louder[12] = {0x1.000002p14f};
+    const struct channel faults[7] = {
+        {row, 2, quarters, 12, 258, 257}, {row, 2, quarters, 12, 0, 257}, {unknown, 1, louder, 12, 0, 2},
+        {unknown, 2, louder, 11, 0, 2}, {unknown, 2, louder, 12, 0, 2}, {row, 2, louder, 12, 0, 2}, tie,
+    };
+    const uint8_t numbers[7] = {1, 2, 3, 3, 4, 5, 6};
+    memset(wanted, '#', sizeof wanted);
+    for (int i = 0; i < 14; i++) {
+        size_t length = 9;
+        EXPECT(print(&misfit, &faults[i % 7], i < 7 ? 0 : FATHRUGG_PAGES_BYTES, &length) == numbers[i % 7]);
+        EXPECT(length == 9 && memcmp(paper, wanted, sizeof paper) == 0);
+    }
+}
+
 /* The components of bins of hebap 0 are never looked at: here they are never set, which valgrind tells if they are.
    Six codes of 3 bits at 0.25 take 18 bits at Gk 1; at Gk 2 each is small and takes 2, with the gain's bit 13; at Gk 4 each takes the tag. */
 static void unset(void)
@@ -213,6 +331,13 @@ static void unset(void)
     EXPECT(mode == 1 && count == 1 && gk[0] == 2 && payload == 13);
     EXPECT(fathrugg_write_aht_channel(mode, gk, count, payload, hebap, BINS, 0, BINS, x, 6 * BINS, field, 2, &byte, &bit) == FATHRUGG_OK);
     EXPECT(byte == 1 && bit == 7);
+    const struct plan p = {1, {2}, 1, 13};
+    const struct channel c = {hebap, BINS, x, 6 * BINS, 0, BINS};
+    const char *const lines[4] = {
+        "  0  8 2  12   1  0 -   0   2  0 -   0   3  0 -   0", "  4  0 -   0   5  0 -   0   6  0 -   0   7  0 -   0",
+        "  8  0 -   0   9  0 -   0  10  0 -   0  11  0 -   0", " 12  0 -   0  13  0 -   0  14  0 -   0  15  0 -   0",
+    };
+    PRINTED(p, c, lines);
     free(x);
 }
 
@@ -236,6 +361,7 @@ int main(void)
     books();
     quantiser();
     channel();
+    pages();
     unset();
     return wrong;
 }

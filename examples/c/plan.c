@@ -1,7 +1,7 @@
 /*
  * Plans the channel of docs/FORMAT.md, Desk text, writes its field and prints the plan as the desk does
- * (examples/tie.plan). Then it reads the field back and compares. Exits with 0 if all went well, else with 1
- * and a word on standard error.
+ * (examples/tie.plan), then the lines of its page that show bins. Then it reads the field back and compares. Exits
+ * with 0 if all went well, else with 1 and a word on standard error.
  *
  *   cc -std=c99 -Wall -Wextra -Werror -Iinclude examples/c/plan.c target/staticlib/libfathrugg.a -o target/plan
  *
@@ -63,6 +63,15 @@ int main(void)
     for (size_t i = 0; i < bytes; i++)
         printf(" %02x", field[i]);
     printf(")\n)\n");
+
+    /* the plan on a page: of its lines of 65 bytes those that show bins, four to a line */
+    uint8_t pages[FATHRUGG_PAGES_BYTES];
+    size_t length;
+    number = fathrugg_print_pages(mode, gains, count, payload, hebap, END, START, END, x, 6 * END,
+                                  pages, sizeof pages, &length);
+    if (number != FATHRUGG_OK)
+        return refused("the print", number);
+    fwrite(pages, 65, (END - START + 3) / 4, stdout);
     if (fflush(stdout) != 0) {
         fprintf(stderr, "plan: standard output cannot be written\n");
         return 1;

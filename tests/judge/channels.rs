@@ -17,7 +17,7 @@ pub fn run(seed: u64, all: &mut Tally) {
 }
 
 /// A channel of few bins mostly, of up to 256 at times.
-fn some_channel(random: &mut Random) -> (Vec<u8>, Vec<f32>, usize, usize) {
+pub fn some_channel(random: &mut Random) -> (Vec<u8>, Vec<f32>, usize, usize) {
     let bins = match random.below(16) {
         0 => random.below(257),
         1 => 256 - random.below(3),
@@ -30,7 +30,7 @@ fn some_channel(random: &mut Random) -> (Vec<u8>, Vec<f32>, usize, usize) {
 }
 
 /// The same plan as the library has it; the places that no gain uses hold anything.
-fn plan_of(random: &mut Random, p: &ahtenc::AhtChannelPlan) -> ours::Plan {
+pub fn plan_of(random: &mut Random, p: &ahtenc::AhtChannelPlan) -> ours::Plan {
     let mut gains = [0u8; 256];
     for (i, g) in gains.iter_mut().enumerate() {
         *g = p.gains.get(i).map_or_else(|| random.below(256) as u8, |&code| [1, 2, 4][code as usize]);

@@ -1,6 +1,7 @@
-//! The desk program against a second reading of docs/FORMAT.md, Desk text: a parser written from that section alone,
-//! with the Rust's planner and writer behind it. Its words are the seed, the desk program and how many texts; or
-//! `expect`, and it prints what the desk has to print for the text on standard input.
+//! The desk programs against a second reading of docs/FORMAT.md, Desk text: a parser written from that section alone,
+//! with the Rust's planner and writer behind it, and of Pages (pages.rs). Its words are the seed, the programs desk and
+//! desk_pages, and how many texts; or `expect`, and it prints what the desk has to print for the text on standard input;
+//! or `expect-pages`, and it prints what desk_pages has to.
 #![allow(dead_code)]
 mod audblk {
     pub const N_COEFFS: usize = 256;
@@ -17,6 +18,7 @@ mod eac3 {
         pub mod aht_codebooks;
     }
 }
+mod pages;
 mod random;
 mod signals;
 
@@ -129,22 +131,46 @@ fn channel_of(bytes: &[u8]) -> Option<(usize, usize, Vec<u8>, Vec<f32>)> {
     Some((bins[0] as usize, bins[1] as usize, row.iter().map(|&n| n as u8).collect(), x))
 }
 
-/// What the desk has to print.
-fn expected(bytes: &[u8]) -> String {
-    let Some((start, end, row, x)) = channel_of(bytes) else {
-        return "(refused 13)\n".into();
-    };
-    let number = signals::cause(&row, start, end, &x);
-    if number > 0 {
-        return format!("(refused {number})\n");
+/// A channel with its best plan.
+struct Planned {
+    start: usize,
+    end: usize,
+    row: Vec<u8>,
+    x: Vec<f32>,
+    plan: ahtenc::AhtChannelPlan,
+}
+
+/// The plan of a text, or the number of its refusal.
+fn planned(bytes: &[u8]) -> Result<Planned, u8> {
+    let (start, end, row, x) = channel_of(bytes).ok_or(13u8)?;
+    match signals::cause(&row, start, end, &x) {
+        0 => {
+            let plan = ahtenc::plan_aht_channel(&row, start, end, &signals::vectors(&x));
+            Ok(Planned { start, end, row, x, plan })
+        }
+        number => Err(number),
     }
-    let v = signals::vectors(&x);
-    let p = ahtenc::plan_aht_channel(&row, start, end, &v);
+}
+
+/// What the desk has to print.
+fn desk(text: &Result<Planned, u8>) -> Vec<u8> {
+    let Planned { start, end, row, x, plan: p } = match text {
+        Ok(planned) => planned,
+        Err(number) => return format!("(refused {number})\n").into_bytes(),
+    };
     let mut w = BitWriter::new();
-    ahtenc::write_aht_channel(&mut w, &p, &row, start, end, &v);
+    ahtenc::write_aht_channel(&mut w, p, row, *start, *end, &signals::vectors(x));
     let gains: String = p.gains.iter().map(|&c| format!(" {}", [1, 2, 4][c as usize])).collect();
     let field: String = w.finish().iter().map(|b| format!(" {b:02x}")).collect();
-    format!("(plan\n(mode {})\n(gains{gains})\n(payload {})\n(total {})\n(field{field})\n)\n", p.gaqmod, p.payload_bits, 2 + p.payload_bits)
+    format!("(plan\n(mode {})\n(gains{gains})\n(payload {})\n(total {})\n(field{field})\n)\n", p.gaqmod, p.payload_bits, 2 + p.payload_bits).into_bytes()
+}
+
+/// What desk_pages has to print: nothing where there are no bins.
+fn desk_pages(text: &Result<Planned, u8>) -> Vec<u8> {
+    match text {
+        Ok(p) => pages::pages(&pages::cells(&p.plan, &p.row, p.start, p.end, &p.x)),
+        Err(_) => desk(text),
+    }
 }
 
 fn sep(random: &mut Random, lines: bool) -> &'static str {
@@ -259,45 +285,61 @@ fn broken(random: &mut Random) -> Vec<u8> {
     s
 }
 
+/// What a program prints for a text; None where it fails, or says something beside its answer.
+fn printed(program: &str, text: &[u8]) -> Option<Vec<u8>> {
+    let mut child = Command::new(program).stdin(Stdio::piped()).stdout(Stdio::piped()).stderr(Stdio::piped()).spawn().expect("the program runs");
+    let mut input = child.stdin.take().unwrap();
+    // in two pieces, as a pipe may give them; a program that has seen enough may close its end
+    let cut = text.len() / 3;
+    let _ = input.write_all(&text[..cut]).and_then(|()| input.flush()).and_then(|()| input.write_all(&text[cut..]));
+    drop(input);
+    let output = child.wait_with_output().expect("the program ends");
+    (output.status.success() && output.stderr.is_empty()).then_some(output.stdout)
+}
+
 fn main() {
     let words: Vec<String> = std::env::args().collect();
-    if words.get(1).is_some_and(|w| w == "expect") {
+    if let Some(word @ ("expect" | "expect-pages")) = words.get(1).map(String::as_str) {
         let mut text = Vec::new();
         std::io::stdin().read_to_end(&mut text).expect("a text");
-        print!("{}", expected(&text));
+        let planned = planned(&text);
+        let answer = if word == "expect" { desk(&planned) } else { desk_pages(&planned) };
+        std::io::stdout().write_all(&answer).expect("an answer can be printed");
         return;
     }
     let seed = words.get(1).and_then(|s| s.parse().ok()).unwrap_or(1);
-    let desk = words.get(2).expect("the desk program");
-    let count: u64 = words.get(3).and_then(|s| s.parse().ok()).unwrap_or(20_000);
+    let programs = [words.get(2).expect("the desk program"), words.get(3).expect("the program of its pages")];
+    let count: u64 = words.get(4).and_then(|s| s.parse().ok()).unwrap_or(20_000);
     let mut random = Random::new(seed + 30);
     let (mut different, mut plans, mut refusals) = (0u64, 0u64, [0u64; 14]);
+    let mut sheets = [0u64; 3];
     for i in 0..count {
         let text = if i % 2 == 0 { good(&mut random) } else { broken(&mut random) };
-        let want = expected(&text);
-        let mut child = Command::new(desk).stdin(Stdio::piped()).stdout(Stdio::piped()).stderr(Stdio::piped()).spawn().expect("the desk runs");
-        let mut input = child.stdin.take().unwrap();
-        // in two pieces, as a pipe may give them; a desk that has seen enough may close its end
-        let cut = text.len() / 3;
-        let _ = input.write_all(&text[..cut]).and_then(|()| input.flush()).and_then(|()| input.write_all(&text[cut..]));
-        drop(input);
-        let output = child.wait_with_output().expect("the desk ends");
-        let got = output.stdout;
-        match want.strip_prefix("(refused ") {
-            None => plans += 1,
-            Some(n) => refusals[n.trim_end_matches(")\n").parse::<usize>().unwrap()] += 1,
+        let planned = planned(&text);
+        let want = [desk(&planned), desk_pages(&planned)];
+        match planned {
+            Ok(_) => {
+                plans += 1;
+                sheets[want[1].len() / 3250] += 1;
+            }
+            Err(number) => refusals[number as usize] += 1,
         }
-        if got != want.as_bytes() || !output.status.success() || !output.stderr.is_empty() {
-            different += 1;
-            if different <= 5 {
-                println!("desk: {:?}: {:?}, not {want:?}", String::from_utf8_lossy(&text), String::from_utf8_lossy(&got));
+        for (program, want) in programs.into_iter().zip(want) {
+            let got = printed(program, &text);
+            if got.as_ref() != Some(&want) {
+                different += 1;
+                if different <= 5 {
+                    let shown = |b: &[u8]| String::from_utf8_lossy(b).into_owned();
+                    println!("{program}: {:?}: {:?}, not {:?}", shown(&text), got.as_deref().map(shown), shown(&want));
+                }
             }
         }
     }
     let refused: Vec<String> = refusals.iter().enumerate().filter(|(_, n)| **n > 0).map(|(k, n)| format!("{n} with {k}")).collect();
     println!("compare: desk, seed {seed}: {count} texts, {different} different; {plans} planned, refused {}", refused.join(", "));
+    println!("compare: desk, of the plans {} have no page, {} one, {} two", sheets[0], sheets[1], sheets[2]);
     // each answer that the desk can give is met
-    let met = plans > count / 4 && [1, 2, 3, 4, 13].iter().all(|&k| refusals[k] > count / 500);
+    let met = plans > count / 4 && [1, 2, 3, 4, 13].iter().all(|&k| refusals[k] > count / 500) && sheets.iter().all(|&n| n > count / 500);
     if different > 0 || !met {
         std::process::exit(1);
     }

@@ -1,6 +1,7 @@
 //! Compares the proved calls with the Rust that they were ported from: results, refusals, positions and every lent
-//! byte. The files of the Rust stand beside this one under eac3/, unchanged. Its word is the seed; a second word,
-//! `scale` or `few`, makes it long or short.
+//! byte; those that the Rust does not have with second readings of docs/FORMAT.md (shown.rs, pages.rs). The files of the
+//! Rust stand beside this one under eac3/, unchanged. Its word is the seed; a second word, `scale` or `few`, makes it
+//! long or short.
 #![allow(dead_code)]
 
 /// What ahtenc.rs takes from audblk.rs, which rests on files that are not at hand, and from encoder.rs, which is one
@@ -28,6 +29,9 @@ mod coding;
 mod foundations;
 #[cfg(not(record))]
 mod ours;
+mod pages;
+#[cfg(not(record))]
+mod printed;
 mod random;
 #[cfg(record)]
 mod record;
@@ -60,7 +64,7 @@ fn main() {
 
 /// Each call with all of its refusals, 0 for an answer: the comparison must have met each.
 #[cfg(not(record))]
-const MET: [(&str, &[u8]); 16] = [
+const MET: [(&str, &[u8]); 17] = [
     ("read_u32", &[0, 8, 12]),
     ("write_u32", &[0, 7, 12]),
     ("hebap_from_address", &[0, 12]),
@@ -77,6 +81,7 @@ const MET: [(&str, &[u8]); 16] = [
     ("plan_aht_channel", &[0, 1, 2, 3, 4, 5]),
     ("write_aht_channel", &[0, 1, 2, 3, 4, 5, 6, 7]),
     ("read_aht_channel", &[0, 1, 2, 3, 4, 8, 9, 10]),
+    ("print_pages", &[0, 1, 2, 3, 4, 5, 6, 7]),
 ];
 
 #[cfg(not(record))]
@@ -87,6 +92,7 @@ fn main() {
     foundations::run(seed, &mut all);
     coding::run(seed, &mut all);
     channels::run(seed, &mut all);
+    printed::run(seed, &mut all);
     println!("compare: {} cases, {} different", all.cases, all.different);
     let mut missing = 0;
     for (call, refusals) in MET {
@@ -97,7 +103,7 @@ fn main() {
     let known = |&(call, n): &(&str, u8)| MET.iter().any(|(c, refusals)| *c == call && refusals.contains(&n));
     let unknown: Vec<_> = all.met.keys().filter(|k| !known(k)).collect();
     let mut few = 0;
-    for call in ["vq_search", "quantise_scalar", "quantise_bin", "plan_aht_channel", "write_aht_channel"] {
+    for call in ["vq_search", "quantise_scalar", "quantise_bin", "plan_aht_channel", "write_aht_channel", "print_pages"] {
         let n = all.louder.get(call).copied().unwrap_or(0);
         println!("compare: {call:<28} {n} answers with a component above 1024");
         few += usize::from(n < times(10_000, 10_000) as u64);

@@ -30,6 +30,10 @@ extern "C" {
         src: *const u8, len: usize, byte: *mut usize, bit: *mut u32, hebap: *const u8, bins: usize, start: usize, end: usize, values: *mut f32, nvalues: usize, exact: *mut i32, nexact: usize,
         indices: *mut u16, nindices: usize, mode: *mut u8, gains: *mut u8, count: *mut usize, bits: *mut u32,
     ) -> u8;
+    fn fathrugg_print_pages(
+        mode: u8, gains: *const u8, count: usize, payload: u32, hebap: *const u8, bins: usize, start: usize, end: usize, x: *const f32, components: usize, out: *mut u8, len: usize,
+        length: *mut usize,
+    ) -> u8;
 }
 
 /// A bit position, as the library has it.
@@ -165,6 +169,15 @@ pub fn read_aht_channel(src: &[u8], p: &mut Pos, hebap: &[u8], start: usize, end
         fathrugg_read_aht_channel(
             src.as_ptr(), src.len(), &mut p.byte, &mut p.bit, hebap.as_ptr(), hebap.len(), start, end, out.values.as_mut_ptr(), out.values.len(), out.exact.as_mut_ptr(), out.exact.len(),
             out.indices.as_mut_ptr(), out.indices.len(), &mut c.mode, c.gains.as_mut_ptr(), &mut c.count, &mut c.bits,
+        )
+    }
+}
+
+#[allow(clippy::too_many_arguments)]
+pub fn print_pages(plan: &Plan, hebap: &[u8], start: usize, end: usize, x: &[f32], out: &mut [u8], length: &mut usize) -> u8 {
+    unsafe {
+        fathrugg_print_pages(
+            plan.mode, plan.gains.as_ptr(), plan.count, plan.payload, hebap.as_ptr(), hebap.len(), start, end, x.as_ptr(), x.len(), out.as_mut_ptr(), out.len(), length,
         )
     }
 }

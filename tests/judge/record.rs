@@ -1,7 +1,8 @@
 //! The recorded answers that crates/replay and crates/replay_channels replay: calls with what the Rust answers. Their
 //! files stdin and stdout were made by `tests/compare FOLDER 20261117 record`, and tests/compare makes them again and
 //! compares. read_u32, read_three and write_u32 are the stand-in's answers, read_aht_channel's those of the Rust's
-//! reading functions in the order of the layout (shown.rs); the numbers of refusals are those of docs/FORMAT.md.
+//! reading functions in the order of the layout (shown.rs), print_pages' those of a second reading of docs/FORMAT.md
+//! with the bits of the Rust's writer (pages.rs); the numbers of refusals are those of docs/FORMAT.md.
 //!
 //! Here are the calls below the planner, 256 bytes each, least significant byte first: 0 function, 1 refusal, 2 to 5
 //! small arguments, 6 length of the input, 7 places of the output, 8 position's byte (8 bytes), 16 its bit (4), 20 a
@@ -64,6 +65,18 @@ pub mod aim {
     pub const LOUD: u8 = 25;
     /// Two vectors of a book equally far from one of 16384, where an ulp is 1/512.
     pub const LOUD_TIE: u8 = 26;
+    /// On pages, each hebap in a mode, at one of its gains.
+    pub const KINDS: u8 = 27;
+    /// Bits of 99 or more.
+    pub const DIGITS: u8 = 28;
+    /// A line that is full, or not; two lines.
+    pub const LINES: u8 = 29;
+    /// An output of which just the last byte is missing.
+    pub const BYTE_SHORT: u8 = 30;
+    /// An output with bytes behind the pages.
+    pub const REST_KEPT: u8 = 31;
+    /// start = end.
+    pub const NO_BINS: u8 = 32;
 }
 
 /// Positions that no buffer reaches; 2^61 bytes are 2^64 bits, which would wrap to 0.
@@ -161,7 +174,7 @@ const NAMES: [&str; 18] = [
 
 /// Writes the files stdin, and stdout as it is when no answer is wrong, of both programs.
 pub fn write(seed: u64, crates: &str) {
-    let (mut random, mut later) = (Random::new(seed), Random::new(seed + 1));
+    let (mut random, mut later, mut last) = (Random::new(seed), Random::new(seed + 1), Random::new(seed + 2));
     let calls = (1..=13).chain([17]).map(|f| {
         let mut records = special(f, &mut random);
         records.extend((0..250).map(|i| one(f, i, &mut random)));
@@ -169,7 +182,7 @@ pub fn write(seed: u64, crates: &str) {
         Records { name: NAMES[f as usize], bytes: records.iter().flat_map(|r| r.0).collect(), count: records.len() }
     });
     let calls: Vec<Records> = calls.collect();
-    let channels = record_channels::records(&mut random, &mut later);
+    let channels = record_channels::records(&mut random, &mut later, &mut last);
     for (program, all) in [("replay", &calls), ("replay_channels", &channels)] {
         let stdin: Vec<u8> = all.iter().flat_map(|r| r.bytes.iter().copied()).collect();
         let stdout: String = all.iter().map(|r| format!("{}: {} answers, 0 wrong\n", r.name, r.count)).collect();

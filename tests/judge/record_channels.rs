@@ -1,25 +1,45 @@
-//! The recorded answers of plan_aht_channel, write_aht_channel and read_aht_channel (functions 14, 15 and 16), 1024
-//! bytes each, least significant byte first, with up to eight bins: 0 function, 1 refusal, 2 mode, 3 length of the row,
-//! 4 how many components, 5 length of the bytes, 6 and 7 how many values and exact values, 8 position's byte (8 bytes),
-//! 16 its bit (4), 20 the plan's payload (4), 24 start (8), 32 end (8), 40 count (8), 48 how many indices, 56 the row
-//! (16), 72 gains (32), 104 the value (8), 112 and 120 the position after, 125 to 127 what the record is aimed at, 128
-//! vectors (192), 320 bytes (128), 448 bytes after (128), 576 values (192), 768 exact values (192), 960 indices (16).
+//! The recorded answers of plan_aht_channel, write_aht_channel, read_aht_channel and print_pages (functions 14, 15, 16
+//! and 18), 1024 bytes each, least significant byte first, with up to eight bins: 0 function, 1 refusal, 2 mode,
+//! 3 length of the row, 4 how many components, 5 length of the bytes, 6 and 7 how many values and exact values,
+//! 8 position's byte (8 bytes), 16 its bit (4), 20 the plan's payload (4), 24 start (8), 32 end (8), 40 count (8), 48
+//! how many indices, 56 the row (16), 72 gains (32), 104 the value (8), 112 and 120 the position after, 125 to 127 what
+//! the record is aimed at, 128 vectors (192), 320 bytes (128), 448 bytes after (128), 576 values (192), 768 exact
+//! values (192), 960 indices (16).
 //!
 //! Mode, count and gains are the plan's that is handed in, or that was planned, or what was read. The value is the
-//! payload that was planned, or the bits of the field that was read. The gains that a writer gets are 256: the 32 again
+//! payload that was planned, or the bits of the field that was read. The gains that are handed in are 256: the 32 again
 //! and again. Values, exact values and indices are bytes 0x42 before the call. A refused plan or read is zeros.
+//!
+//! Of pages there are no bytes and no position: 8 is the length of the output (8 bytes), at most 3300, 104 that of the
+//! pages, 0 for a refusal, and 320 their first two lines (130), on which eight bins stand; zeros where there is none.
+//! The other 48 lines are spaces by docs/FORMAT.md. The output's bytes are 0x42 before the call. The answers are those
+//! of pages.rs.
 use crate::eac3::{aht, ahtenc};
+use crate::pages;
 use crate::random::Random;
 use crate::record::{aim, six_loud, Records, FAR, NO_NUMBERS};
 use crate::shown;
-use crate::signals::{bin_of, cause, channel, edges, fitting, outside, some_plan, unit, vectors, with_field, EARLIER, LARGEST};
+use crate::signals::{bin_of, cause, channel, edges, fitting, gains_of, outside, plan_with, some_plan, unfit, unit, vectors, with_field, EARLIER, LARGEST};
 use oxideav_core::bits::{BitReader, BitWriter};
 
 const PLAN: u8 = 14;
 const WRITE: u8 = 15;
 const READ: u8 = 16;
+const PRINT: u8 = 18;
 
-/// Everything that one of the three calls is given.
+/// The highest number that a function refuses with, but 9 and 10, which stand in the field.
+fn last_cause(f: u8) -> u8 {
+    match f {
+        PLAN => 5,
+        READ => 8,
+        _ => 7,
+    }
+}
+
+/// The bytes of a page.
+const PAGE: usize = 3250;
+
+/// Everything that one of the calls is given.
 #[derive(Clone)]
 struct Call {
     row: Vec<u8>,
@@ -35,6 +55,8 @@ struct Call {
     values: usize,
     exact: usize,
     indices: usize,
+    /// How many bytes are lent for pages.
+    room: usize,
 }
 
 impl Call {
@@ -48,7 +70,8 @@ impl Call {
         let over = if random.below(5) == 0 { random.below(at / 8 + 1) } else { 0 };
         let position = (at / 8 - over, (at % 8 + 8 * over) as u32);
         let bins = row.len();
-        Call { row, x, start, end, mode: plan.gaqmod, gains, count: plan.gains.len(), payload: plan.payload_bits, bytes, position, values: 6 * bins, exact: 6 * bins, indices: bins }
+        let room = PAGE * (end - start).div_ceil(200);
+        Call { row, x, start, end, mode: plan.gaqmod, gains, count: plan.gains.len(), payload: plan.payload_bits, bytes, position, values: 6 * bins, exact: 6 * bins, indices: bins, room }
     }
 
     fn drawn(random: &mut Random, bins: usize) -> Call {
@@ -105,12 +128,10 @@ impl Call {
             5 => self.bins().any(|k| self.row[k] != 0 && self.x.iter().skip(6 * k).take(6).any(|&v| outside(v))),
             // by the plan alone where the row cannot be looked at
             6 => {
-                let allowed: &[u8] = [&[1u8][..], &[1, 2], &[1, 4], &[1, 2, 4], &[]][self.mode.min(4) as usize];
-                self.mode > 3
-                    || self.count > 256
-                    || self.gains.iter().take(self.count).any(|g| !allowed.contains(g))
+                unfit(self.mode, &self.gains, self.count)
                     || (1..=5).all(|n| !self.holds(WRITE, n)) && fitting(self.mode, &self.gains, self.count, self.payload, &self.row, self.start, self.end, &self.x).is_none()
             }
+            7 if f == PRINT => self.start <= self.end && (self.room as u128) < PAGE as u128 * ((self.end - self.start) as u128).div_ceil(200),
             7 => self.at().is_none_or(|at| at + 2 + self.payload as usize > 8 * self.bytes.len()),
             _ => self.field_causes().contains(&number),
         }
@@ -191,6 +212,7 @@ impl Call {
                 1 => self.gains[0] = 3,
                 _ => self.count = usize::MAX,
             },
+            7 if f == PRINT => self.room = random.pick(&[0, 1, 130, self.room - 1]),
             // past the end, or no byte of the field there
             7 | 8 => match random.below(3) {
                 0 => self.position = random.pick(&FAR),
@@ -207,16 +229,21 @@ impl Call {
         assert_eq!(places, [true; 6], "the call has its places in a record");
         let mut r = Record([0; 1024]);
         r.0[0] = f;
-        r.0[3..8].copy_from_slice(&[self.row.len() as u8, self.x.len() as u8, self.bytes.len() as u8, self.values as u8, self.exact as u8]);
-        r.0[48] = self.indices as u8;
-        r.number(8, self.position.0);
-        r.0[16..20].copy_from_slice(&self.position.1.to_le_bytes());
+        r.0[3..5].copy_from_slice(&[self.row.len() as u8, self.x.len() as u8]);
         r.number(24, self.start);
         r.number(32, self.end);
         r.0[56..56 + self.row.len()].copy_from_slice(&self.row);
         for (place, v) in r.0[128..320].chunks_exact_mut(4).zip(&self.x) {
             place.copy_from_slice(&v.to_bits().to_le_bytes());
         }
+        if f == PRINT {
+            self.printed(&mut r);
+            return r;
+        }
+        r.0[5..8].copy_from_slice(&[self.bytes.len() as u8, self.values as u8, self.exact as u8]);
+        r.0[48] = self.indices as u8;
+        r.number(8, self.position.0);
+        r.0[16..20].copy_from_slice(&self.position.1.to_le_bytes());
         r.0[320..320 + self.bytes.len()].copy_from_slice(&self.bytes);
         match f {
             PLAN => self.planned(&mut r),
@@ -224,6 +251,22 @@ impl Call {
             _ => self.read(&mut r),
         }
         r
+    }
+
+    /// The plan that is handed in.
+    fn plan(&self, r: &mut Record) {
+        r.0[2] = self.mode;
+        r.number(40, self.count);
+        r.0[72..104].copy_from_slice(&self.gains);
+        r.0[20..24].copy_from_slice(&self.payload.to_le_bytes());
+    }
+
+    /// The Rust's plan where the one that is handed in fits, or the number of the refusal, 1 to 6.
+    fn fits(&self) -> Result<ahtenc::AhtChannelPlan, u8> {
+        match cause(&self.row, self.start, self.end, &self.x) {
+            0 => fitting(self.mode, &self.gains, self.count, self.payload, &self.row, self.start, self.end, &self.x).ok_or(6),
+            n => Err(n),
+        }
     }
 
     fn planned(&self, r: &mut Record) {
@@ -240,30 +283,38 @@ impl Call {
     }
 
     fn written(&self, r: &mut Record) {
-        r.0[2] = self.mode;
-        r.number(40, self.count);
-        r.0[72..104].copy_from_slice(&self.gains);
-        r.0[20..24].copy_from_slice(&self.payload.to_le_bytes());
+        self.plan(r);
         let mut after = self.bytes.clone();
-        r.0[1] = match cause(&self.row, self.start, self.end, &self.x) {
-            0 => match fitting(self.mode, &self.gains, self.count, self.payload, &self.row, self.start, self.end, &self.x) {
-                None => 6,
-                Some(plan) => {
-                    let total = 2 + self.payload as usize;
-                    match self.at().filter(|at| at + total <= 8 * self.bytes.len()) {
-                        None => 7,
-                        Some(at) => {
-                            after = with_field(&self.bytes, at, &plan, &self.row, self.start, self.end, &self.x).0;
-                            r.number(112, (at + total) / 8);
-                            r.0[120] = ((at + total) % 8) as u8;
-                            0
-                        }
-                    }
-                }
-            },
-            n => n,
+        let total = 2 + self.payload as usize;
+        r.0[1] = match (self.fits(), self.at().filter(|at| at + total <= 8 * self.bytes.len())) {
+            (Err(n), _) => n,
+            (Ok(_), None) => 7,
+            (Ok(plan), Some(at)) => {
+                after = with_field(&self.bytes, at, &plan, &self.row, self.start, self.end, &self.x).0;
+                r.number(112, (at + total) / 8);
+                r.0[120] = ((at + total) % 8) as u8;
+                0
+            }
         };
         r.0[448..448 + after.len()].copy_from_slice(&after);
+    }
+
+    fn printed(&self, r: &mut Record) {
+        self.plan(r);
+        assert!(self.room <= PAGE + 50, "the output has its places in the replay");
+        r.number(8, self.room);
+        let text = self.fits().map(|plan| pages::pages(&pages::cells(&plan, &self.row, self.start, self.end, &self.x)));
+        r.0[1] = match text {
+            Err(n) => n,
+            Ok(text) if self.room < text.len() => 7,
+            Ok(text) => {
+                assert!(text.chunks(65).skip(2).all(|line| line[..64] == [b' '; 64]), "eight bins stand on two lines");
+                r.number(104, text.len());
+                let two = text.len().min(130);
+                r.0[320..320 + two].copy_from_slice(&text[..two]);
+                0
+            }
+        };
     }
 
     fn read(&self, r: &mut Record) {
@@ -315,8 +366,9 @@ impl Record {
     }
 }
 
-/// The records of the three functions, of each the aimed ones first, then 100 drawn at random, then the loud ones.
-pub fn records(random: &mut Random, later: &mut Random) -> Vec<Records> {
+/// The records of the functions: of the first three the aimed ones, then 100 drawn at random, then the loud ones; then
+/// pages, from a seed of their own.
+pub fn records(random: &mut Random, later: &mut Random, last: &mut Random) -> Vec<Records> {
     let mut out = Vec::new();
     for (f, name) in [(PLAN, "plan_aht_channel"), (WRITE, "write_aht_channel"), (READ, "read_aht_channel")] {
         let mut of = Vec::new();
@@ -332,16 +384,17 @@ pub fn records(random: &mut Random, later: &mut Random) -> Vec<Records> {
         }
         out.push(Records { name, bytes: of.iter().flat_map(|r| r.0).collect(), count: of.len() });
     }
+    let of = pages_of(last);
+    out.push(Records { name: "print_pages", bytes: of.iter().flat_map(|r| r.0).collect(), count: of.len() });
     out
 }
 
 /// Any two causes that can hold together: the lower number is due.
 fn pairs(f: u8, random: &mut Random, out: &mut Vec<Record>) {
-    let last = [5, 7, 8][(f - PLAN) as usize];
-    for a in 1..last {
-        for b in a + 1..=last {
-            // no bin is between a start and an end below it; the reader has no vectors and no plan
-            if a == 1 && (b == 4 || b == 5) || f == READ && (5..=7).contains(&a) || f == READ && (5..=7).contains(&b) {
+    for a in 1..last_cause(f) {
+        for b in a + 1..=last_cause(f) {
+            // no bin is between a start and an end below it, and none has a page; the reader has no vectors and no plan
+            if a == 1 && (b == 4 || b == 5) || f == PRINT && (a, b) == (1, 7) || f == READ && (5..=7).contains(&a) || f == READ && (5..=7).contains(&b) {
                 continue;
             }
             // the two in one bin, the one before the other and behind it
@@ -365,7 +418,7 @@ fn pairs(f: u8, random: &mut Random, out: &mut Vec<Record>) {
 
 fn special(f: u8, random: &mut Random, out: &mut Vec<Record>) {
     // each cause by itself, and cause 3 by each buffer
-    for number in 1..=[5, 7, 8][(f - PLAN) as usize] {
+    for number in 1..=last_cause(f) {
         if f == READ && (5..=7).contains(&number) {
             continue;
         }
@@ -465,49 +518,59 @@ fn special(f: u8, random: &mut Random, out: &mut Vec<Record>) {
         }
     }
     if f == WRITE {
-        // cause 6 by one part of the plan alone
-        for k in 0..12 {
-            let mut call = Call::plain(random);
-            let plan = in_mode_3(&call.row, 1, 5, &call.x, random);
-            call = Call::of(call.row, call.x, 1, 5, &plan, 5, random);
-            let at = match k % 4 {
-                0 => {
-                    call.mode = [4, 255, 2][k / 4];
-                    aim::WRONG_MODE
-                }
-                1 => {
-                    call.count = [2, 4, usize::MAX][k / 4];
-                    aim::WRONG_COUNT
-                }
-                2 => {
-                    call.gains[k / 4] = [0, 3, 8][k / 4];
-                    aim::WRONG_GAIN
-                }
-                _ => {
-                    call.payload = [call.payload - 1, call.payload + 1, u32::MAX][k / 4];
-                    aim::WRONG_PAYLOAD
-                }
-            };
-            out.push(call.record(f).with(6).aim(at));
-        }
-        // gains of another mode, with the payload that they would cost
-        for (mode, gk) in [(1, 4), (2, 2)] {
-            let mut call = Call::plain(random);
-            let (row, x) = (vec![9u8], call.x[..6].to_vec());
-            let plan = ahtenc::AhtChannelPlan { gaqmod: mode, gains: vec![gk / 2], payload_bits: 1 + bin_of(9, gk, x[..].try_into().unwrap()).0 };
-            call = Call::of(row, x, 0, 1, &ahtenc::plan_aht_channel(&[9], 0, 1, &vectors(&call.x[..6])), 5, random);
-            (call.mode, call.gains[0], call.count, call.payload) = (mode, gk, 1, plan.payload_bits);
-            call.bytes.resize(40, 0x55);
-            out.push(call.record(f).with(6).aim(aim::WRONG_GAIN));
-        }
-        let mut others = 0;
-        while others < 8 {
-            let call = Call::drawn(random, 5);
-            let best = ahtenc::plan_aht_channel(&call.row, call.start, call.end, &vectors(&call.x));
-            if best.payload_bits < call.payload {
-                out.push(call.record(f).with(0).aim(aim::OTHER_PLAN));
-                others += 1;
+        unfit_ones(f, random, out);
+        others(f, random, out);
+    }
+}
+
+/// Plans that do not fit.
+fn unfit_ones(f: u8, random: &mut Random, out: &mut Vec<Record>) {
+    // cause 6 by one part of the plan alone
+    for k in 0..12 {
+        let mut call = Call::plain(random);
+        let plan = in_mode_3(&call.row, 1, 5, &call.x, random);
+        call = Call::of(call.row, call.x, 1, 5, &plan, 5, random);
+        let at = match k % 4 {
+            0 => {
+                call.mode = [4, 255, 2][k / 4];
+                aim::WRONG_MODE
             }
+            1 => {
+                call.count = [2, 4, usize::MAX][k / 4];
+                aim::WRONG_COUNT
+            }
+            2 => {
+                call.gains[k / 4] = [0, 3, 8][k / 4];
+                aim::WRONG_GAIN
+            }
+            _ => {
+                call.payload = [call.payload - 1, call.payload + 1, u32::MAX][k / 4];
+                aim::WRONG_PAYLOAD
+            }
+        };
+        out.push(call.record(f).with(6).aim(at));
+    }
+    // gains of another mode, with the payload that they would cost
+    for (mode, gk) in [(1, 4), (2, 2)] {
+        let mut call = Call::plain(random);
+        let (row, x) = (vec![9u8], call.x[..6].to_vec());
+        let plan = ahtenc::AhtChannelPlan { gaqmod: mode, gains: vec![gk / 2], payload_bits: 1 + bin_of(9, gk, x[..].try_into().unwrap()).0 };
+        call = Call::of(row, x, 0, 1, &ahtenc::plan_aht_channel(&[9], 0, 1, &vectors(&call.x[..6])), 5, random);
+        (call.mode, call.gains[0], call.count, call.payload) = (mode, gk, 1, plan.payload_bits);
+        call.bytes.resize(40, 0x55);
+        out.push(call.record(f).with(6).aim(aim::WRONG_GAIN));
+    }
+}
+
+/// Plans that are not the best.
+fn others(f: u8, random: &mut Random, out: &mut Vec<Record>) {
+    let mut others = 0;
+    while others < 8 {
+        let call = Call::drawn(random, 5);
+        let best = ahtenc::plan_aht_channel(&call.row, call.start, call.end, &vectors(&call.x));
+        if best.payload_bits < call.payload {
+            out.push(call.record(f).with(0).aim(aim::OTHER_PLAN));
+            others += 1;
         }
     }
 }
@@ -650,4 +713,100 @@ fn drawn(f: u8, i: usize, random: &mut Random) -> Record {
         _ => {}
     }
     call.record(f)
+}
+
+/// The records of print_pages: causes, alone and together, the kinds of bins, the ends of lines and of the output, loud
+/// bins, and 20 drawn at random.
+fn pages_of(random: &mut Random) -> Vec<Record> {
+    let mut out = Vec::new();
+    pairs(PRINT, random, &mut out);
+    for number in 1..=last_cause(PRINT) {
+        let mut call = Call::plain(random);
+        call.put(PRINT, number, 1 + number as usize % 4, random);
+        out.push(call.record(PRINT).with(number));
+    }
+    for (at, row, components) in [(aim::SHORT_ROW, 4, 30), (aim::SHORT_VECTORS, 5, 29)] {
+        let mut call = Call::plain(random);
+        call.row.truncate(row);
+        call.x.truncate(components);
+        out.push(call.record(PRINT).with(3).aim(at));
+    }
+    unfit_ones(PRINT, random, &mut out);
+    others(PRINT, random, &mut out);
+    no_bins(random, &mut out);
+    kinds(random, &mut out);
+    digits(random, &mut out);
+    // one to eight bins, from 0 on and from a later one; a hebap above 19 and a NaN that no bin called for has
+    for bins in 1..=8 {
+        let start = if bins % 2 == 0 { 0 } else { 8 - bins };
+        let mut row: Vec<u8> = (0..8).map(|_| random.below(20) as u8).collect();
+        let mut x: Vec<f32> = row.iter().flat_map(|_| six_of(random)).collect();
+        row[..start].fill(20);
+        x[..6 * start].fill(f32::NAN);
+        let plan = some_plan(random, &row, start, start + bins, &x);
+        let at = if start > 0 { aim::LATER_START } else { aim::LINES };
+        out.push(Call::of(row, x, start, start + bins, &plan, 0, random).record(PRINT).with(0).aim(at));
+    }
+    // an output that lacks the last byte, that has one more, and up to 50 more
+    for (room, at, number) in [(PAGE - 1, aim::BYTE_SHORT, 7), (PAGE + 1, aim::REST_KEPT, 0), (PAGE + 50, aim::REST_KEPT, 0)] {
+        for bins in [1, 4, 5] {
+            let mut call = Call::drawn(random, bins);
+            (call.start, call.end) = (0, bins);
+            let plan = some_plan(random, &call.row, 0, bins, &call.x);
+            call = Call::of(call.row, call.x, 0, bins, &plan, 0, random);
+            call.room = room;
+            out.push(call.record(PRINT).with(number).aim(at));
+        }
+    }
+    at_limit(LARGEST, PRINT, random, &mut out);
+    loud_ones(PRINT, random, &mut out);
+    for i in 0..20 {
+        let bins = random.below(9);
+        let mut call = Call::drawn(random, bins);
+        match i % 5 {
+            1 => call.room = random.below(PAGE + 51),
+            2 => call.payload = call.payload.wrapping_add(1),
+            3 => call.end = random.below(9),
+            _ => call.room += random.below(51),
+        }
+        out.push(call.record(PRINT));
+    }
+    out
+}
+
+/// start = end: no page and no need of an output, and causes 2, 3 and 6 hold all the same.
+fn no_bins(random: &mut Random, out: &mut Vec<Record>) {
+    for (bins, room, payload, number) in [(0, 0, 0, 0), (5, 0, 0, 0), (5, 1, 0, 0), (3, PAGE + 50, 0, 0), (6, 0, 0, 3), (257, 0, 0, 2), (2, 0, 1, 6)] {
+        let mut call = Call::plain(random);
+        (call.start, call.end, call.room) = (bins, bins, room);
+        (call.mode, call.count, call.payload) = (random.below(4) as u8, 0, payload);
+        let r = call.record(PRINT).with(number);
+        out.push(if number == 0 { r.aim(aim::NO_BINS) } else { r });
+    }
+}
+
+/// Every hebap in every mode, at every gain where it is active.
+fn kinds(random: &mut Random, out: &mut Vec<Record>) {
+    for mode in 0..4 {
+        let gains = gains_of(mode);
+        for (turn, part) in (0..gains.len()).flat_map(|turn| [0..8, 8..16, 16..20].map(|part| (turn, part))) {
+            let row: Vec<u8> = part.collect();
+            let (bins, x) = (row.len(), row.iter().flat_map(|_| six_of(random)).collect::<Vec<f32>>());
+            // every gain has its turn at each active bin
+            let mut turns = gains.iter().cycle().skip(turn);
+            let plan = plan_with(mode, || *turns.next().unwrap(), &row, 0, bins, &x);
+            if turn == 0 || !plan.gains.is_empty() {
+                out.push(Call::of(row, x, 0, bins, &plan, 0, random).record(PRINT).with(0).aim(aim::KINDS));
+            }
+        }
+    }
+}
+
+/// Bits of 99 and more, by so many escapes.
+fn digits(random: &mut Random, out: &mut Vec<Record>) {
+    for (hebap, gk, escapes, bits) in [(15, 2, 5, 99), (16, 2, 4, 100), (15, 2, 6, 108), (16, 4, 5, 109), (16, 2, 6, 120), (16, 4, 6, 120)] {
+        let x: Vec<f32> = (0..6).map(|j| if j < escapes { 0.6 + unit(random) } else { 0.0 }).collect();
+        let plan = ahtenc::AhtChannelPlan { gaqmod: 3, gains: vec![gk / 2], payload_bits: 5 + bits };
+        out.push(Call::of(vec![hebap], x, 0, 1, &plan, 0, random).record(PRINT).with(0).aim(aim::DIGITS));
+    }
 }

@@ -209,27 +209,34 @@ pub fn bin_of(hebap: u8, gk: u8, x: &[f32; 6]) -> (u32, f32, [f32; 6]) {
     (bits, err, values)
 }
 
-/// The Rust's plan, or a mode and gains drawn at will with the bits that the Rust's codes have.
+/// The gains that a mode allows; above 3 there are none.
+pub fn gains_of(mode: u8) -> &'static [u8] {
+    [&[1u8][..], &[1, 2], &[1, 4], &[1, 2, 4], &[]][mode.min(4) as usize]
+}
+
+/// The Rust's plan, or a mode and gains drawn at will.
 pub fn some_plan(random: &mut Random, row: &[u8], start: usize, end: usize, x: &[f32]) -> ahtenc::AhtChannelPlan {
     if random.below(2) == 0 {
         return ahtenc::plan_aht_channel(row, start, end, &vectors(x));
     }
     let mode = random.below(4) as u8;
-    let allowed: &[u8] = [&[0u8][..], &[0, 1], &[0, 2], &[0, 1, 2]][mode as usize];
+    plan_with(mode, || random.pick(gains_of(mode)), row, start, end, x)
+}
+
+/// A mode with the gains that are given for its active bins, in order, and the bits that the Rust's codes have.
+pub fn plan_with(mode: u8, mut gain: impl FnMut() -> u8, row: &[u8], start: usize, end: usize, x: &[f32]) -> ahtenc::AhtChannelPlan {
     let (mut gains, mut bits) = (Vec::new(), 0);
     for k in start..end {
         let v: [f32; 6] = x[6 * k..6 * k + 6].try_into().unwrap();
         bits += match row[k] {
             0 => 0,
             h @ 1..=7 => u32::from(aht::VQ_BITS[h as usize]),
-            h => {
-                let active = mode > 0 && h < aht::endbap_for_gaqmod(mode);
-                if active {
-                    gains.push(random.pick(allowed));
-                }
-                let gk = if active { [1, 2, 4][*gains.last().unwrap() as usize] } else { 1 };
+            h if mode > 0 && h < aht::endbap_for_gaqmod(mode) => {
+                let gk = gain();
+                gains.push(gk / 2);
                 bin_of(h, gk, &v).0
             }
+            h => bin_of(h, 1, &v).0,
         };
     }
     let words = aht::gaq_sections(mode, gains.len()) as u32 * if mode == 3 { 5 } else { 1 };
@@ -252,6 +259,11 @@ pub fn with_field(bytes: &[u8], at: usize, p: &ahtenc::AhtChannelPlan, row: &[u8
     (out, n)
 }
 
+/// Whether a plan fits no row at all, by its mode, its count or a gain alone.
+pub fn unfit(mode: u8, gains: &[u8], count: usize) -> bool {
+    mode > 3 || count > 256 || gains.iter().take(count).any(|g| !gains_of(mode).contains(g))
+}
+
 /// The Rust's plan of these parts where they fit by the words of docs/FORMAT.md: mode, count, gains as Gk, payload.
 #[allow(clippy::too_many_arguments)]
 pub fn fitting(mode: u8, gains: &[u8], count: usize, payload: u32, row: &[u8], start: usize, end: usize, x: &[f32]) -> Option<ahtenc::AhtChannelPlan> {
@@ -262,8 +274,7 @@ pub fn fitting(mode: u8, gains: &[u8], count: usize, payload: u32, row: &[u8], s
     if count != (start..end).filter(|&k| active(row[k])).count() {
         return None;
     }
-    let allowed: &[u8] = [&[1u8][..], &[1, 2], &[1, 4], &[1, 2, 4]][mode as usize];
-    if gains[..count].iter().any(|g| !allowed.contains(g)) {
+    if unfit(mode, gains, count) {
         return None;
     }
     let gains: Vec<u8> = gains[..count].iter().map(|g| g / 2).collect();

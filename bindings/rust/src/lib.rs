@@ -6,9 +6,10 @@
 //! other: those of the bin k are the places `6 * k` to `6 * k + 5`. A call works on the bins `start` to `end - 1`.
 //!
 //! [`plan_aht_channel`] finds the mode and the gains of fewest bits, [`write_aht_channel`] puts the field of a plan
-//! into an output, with exactly the bits that the plan announces, and [`read_aht_channel`] reads a field back. The
-//! small calls under them, such as [`vq_search`], [`quantise_bin`] and [`read_u32`], are there too. Functions and plan
-//! have the names of the Rust that the library was ported from; a plan's gains are Gk (1, 2, 4) here, not codes.
+//! into an output, with exactly the bits that the plan announces, and [`read_aht_channel`] reads a field back.
+//! [`print_pages`] prints a plan as text, bin by bin. The small calls under them, such as [`vq_search`],
+//! [`quantise_bin`] and [`read_u32`], are there too. Functions and plan have the names of the Rust that the library was
+//! ported from, where that has them; a plan's gains are Gk (1, 2, 4) here, not codes.
 //!
 //! ```
 //! use fathrugg::{plan_aht_channel, read_aht_channel, write_aht_channel, AhtChannelPlan, Position};
@@ -106,6 +107,21 @@ extern "C" {
         count: *mut usize,
         bits: *mut u32,
     ) -> u8;
+    fn fathrugg_print_pages(
+        mode: u8,
+        gains: *const u8,
+        count: usize,
+        payload: u32,
+        row: *const u8,
+        row_len: usize,
+        start: usize,
+        end: usize,
+        vectors: *const f32,
+        vectors_len: usize,
+        out: *mut u8,
+        out_len: usize,
+        length: *mut usize,
+    ) -> u8;
     fn fathrugg_vq_search(hebap: u8, x: *const f32, index: *mut usize) -> u8;
     fn fathrugg_vq_lookup(hebap: u8, index: usize, out: *mut f32) -> u8;
     fn fathrugg_quantise_scalar(hebap: u8, gk: u8, x: f32, large: *mut u8, code: *mut u32, value: *mut f32) -> u8;
@@ -157,7 +173,7 @@ pub enum Refusal {
     ComponentTooLarge,
     /// 6: the plan does not fit the row and the vectors.
     PlanDoesNotFit,
-    /// 7: the output has too few bits from the position on, or the position is past its end.
+    /// 7: the output is too short from the position on, or for the pages, or the position is past its end.
     OutputEnds,
     /// 8: the input runs out, or the position is past its end.
     InputEnds,
@@ -219,7 +235,7 @@ impl fmt::Display for Refusal {
             Refusal::HebapAbove19 => "a hebap is above 19",
             Refusal::ComponentTooLarge => "a vector's component is NaN, infinite or above 16384 in size",
             Refusal::PlanDoesNotFit => "the plan does not fit the row and the vectors",
-            Refusal::OutputEnds => "the output has too few bits from the position on, or the position is past its end",
+            Refusal::OutputEnds => "the output is too short from the position on, or for the pages, or the position is past its end",
             Refusal::InputEnds => "the input runs out, or the position is past its end",
             Refusal::GroupWordAbove26 => "a group word of gains is above 26",
             Refusal::UnusedCodeNotZero => "an unused code of the last group word is not 0",
@@ -265,9 +281,9 @@ pub struct AhtChannelPlan {
 }
 
 impl AhtChannelPlan {
-    /// A plan of any values; whether it fits a row and its vectors is tested by [`write_aht_channel`]. `gains` has Gk
-    /// (1, 2 or 4) for each bin that has a gain of its own in the mode, in bin order. Of more than 256 gains, which fit
-    /// no row, only the first 256 are kept, and the count.
+    /// A plan of any values; whether it fits a row and its vectors is tested by [`write_aht_channel`] and
+    /// [`print_pages`]. `gains` has Gk (1, 2 or 4) for each bin that has a gain of its own in the mode, in bin order.
+    /// Of more than 256 gains, which fit no row, only the first 256 are kept, and the count.
     pub fn new(gaqmod: u8, gains: &[u8], payload_bits: u32) -> AhtChannelPlan {
         let mut places = [0; PLACES];
         let kept = gains.len().min(PLACES);
@@ -458,6 +474,61 @@ pub fn read_aht_channel(
         )
     })?;
     Ok(c)
+}
+
+/// Prints a plan on pages, as ASCII text, to the front of the output, whose rest is kept. How many bytes the pages
+/// have is the answer.
+///
+/// A line has 64 characters, then a line feed. It shows four bins, in order from `start` on: the bin in 3 characters,
+/// its hebap in 2, its Gk in 1 and its bits in 3, right-aligned, with a space between; a space between bins too, and
+/// spaces to the end of the line. A bin without a gain of its own in the mode has a dash for Gk. The bits are those of
+/// the bin's codes or index, 0 for hebap 0, without gain words. A page has 50 lines, 3250 bytes, and each 200 bins
+/// begun have one; lines of 64 spaces fill the last. Without bins there is no page; 6500 bytes are always enough.
+///
+/// The plan may be any that fits the row and the vectors, best or not.
+///
+/// ```
+/// use fathrugg::{plan_aht_channel, print_pages};
+///
+/// let row = [8, 0];
+/// let vectors = [0.25, 0.0, -0.25, 0.0, 0.0, 0.0, 0.0, 0.0, 0.0, 0.0, 0.0, 0.0];
+/// let best = plan_aht_channel(&row, 0, 2, &vectors)?;
+///
+/// let mut out = [0; 6500];
+/// assert_eq!(print_pages(&best, &row, 0, 2, &vectors, &mut out), Ok(3250));
+/// assert_eq!(out[..27], *b"  0  8 2  12   1  0 -   0  ");
+/// # Ok::<(), fathrugg::Refusal>(())
+/// ```
+///
+/// Refusals 1 to 6 as [`write_aht_channel`], then 7.
+pub fn print_pages(
+    plan: &AhtChannelPlan,
+    row: &[u8],
+    start: usize,
+    end: usize,
+    vectors: &[f32],
+    out: &mut [u8],
+) -> Result<usize, Refusal> {
+    let mut length = 0;
+    // SAFETY: each pointer goes with the length of its slice, and `gains` has its 256 places, whatever the count.
+    answer(unsafe {
+        fathrugg_print_pages(
+            plan.gaqmod,
+            plan.gains.as_ptr(),
+            plan.count,
+            plan.payload_bits,
+            row.as_ptr(),
+            row.len(),
+            start,
+            end,
+            vectors.as_ptr(),
+            vectors.len(),
+            out.as_mut_ptr(),
+            out.len(),
+            &mut length,
+        )
+    })?;
+    Ok(length)
 }
 
 /// The index of the vector nearest to `x` in the book of the hebap, the lowest of equals. Where there is no book,

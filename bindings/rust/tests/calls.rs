@@ -1,11 +1,10 @@
 //! The crate's functions: channels written and read back, and each refusal with what was lent.
 #![forbid(unsafe_code)]
 
-use fathrugg::{
-    endbap_for_gaqmod, fill_gaqbin, gaq_gain_value, gaq_sections, hebap_from_address, plan_aht_channel, quantise_bin, quantise_scalar, read_aht_channel,
-    read_gaq_gains, read_scalar_aht_mantissas, read_u32, version, vq_lookup, vq_search, write_aht_channel, write_u32, AhtChannel, AhtChannelPlan, Code,
-    Position, Refusal,
-};
+use fathrugg::{endbap_for_gaqmod, fill_gaqbin, gaq_gain_value, gaq_sections, hebap_from_address, read_gaq_gains};
+use fathrugg::{plan_aht_channel, print_pages, read_aht_channel, write_aht_channel};
+use fathrugg::{quantise_bin, quantise_scalar, read_scalar_aht_mantissas, vq_lookup, vq_search};
+use fathrugg::{read_u32, version, write_u32, AhtChannel, AhtChannelPlan, Code, Position, Refusal};
 use std::error::Error;
 
 /// The position of a bit.
@@ -251,6 +250,125 @@ fn scalars_and_books() {
     }
 }
 
+// ---- pages; what is expected is worked out by hand from the layout of lines and codes
+
+/// Pages that begin with these lines: spaces fill each line, lines of spaces the last page.
+fn pages(lines: &[&str]) -> Vec<u8> {
+    let all = 50 * lines.len().div_ceil(50);
+    (0..all).flat_map(|i| format!("{:64}\n", lines.get(i).unwrap_or(&"")).into_bytes()).collect()
+}
+
+/// Prints the pages of a plan to outputs as long as these lines want and longer, and to shorter ones.
+fn printed(p: &AhtChannelPlan, row: &[u8], start: usize, end: usize, x: &[f32], lines: &[&str]) {
+    let want = pages(lines);
+    for more in [0, 1, 700] {
+        let mut out = patterned(want.len() + more);
+        let rest = out[want.len()..].to_vec();
+        assert_eq!(print_pages(p, row, start, end, x, &mut out), Ok(want.len()), "{p:?}");
+        assert_eq!(String::from_utf8_lossy(&out[..want.len()]), String::from_utf8_lossy(&want), "{p:?}");
+        assert_eq!(out[want.len()..], rest);
+    }
+    for less in [1, 65, want.len()] {
+        let before = patterned(want.len() - less);
+        let mut out = before.clone();
+        assert_eq!(print_pages(p, row, start, end, x, &mut out), Err(Refusal::OutputEnds));
+        assert_eq!(out, before);
+    }
+}
+
+#[test]
+fn pages_of_the_tie() {
+    let row = [8, 0];
+    let x = [0.25, 0.0, -0.25, 0.0, 0.0, 0.0, 0.0, 0.0, 0.0, 0.0, 0.0, 0.0];
+    let mut line = *b"  0  8 2  12   1  0 -   0                                       \n";
+    let best = plan_aht_channel(&row, 0, 2, &x).unwrap();
+    let mut out = [0; 3250];
+    assert_eq!(print_pages(&best, &row, 0, 2, &x, &mut out), Ok(3250));
+    assert_eq!(out[..65], line);
+    line[..64].fill(b' ');
+    assert!(out[65..].chunks(65).all(|l| l == line));
+    printed(&best, &row, 0, 2, &x, &["  0  8 2  12   1  0 -   0"]);
+    // the other plans that fit: 3 bits a code at Gk 1, at Gk 4 four for 0.25 and -0.25 and one for 0
+    printed(&AhtChannelPlan::new(0, &[], 18), &row, 0, 2, &x, &["  0  8 -  18   1  0 -   0"]);
+    printed(&AhtChannelPlan::new(1, &[1], 19), &row, 0, 2, &x, &["  0  8 1  18   1  0 -   0"]);
+    printed(&AhtChannelPlan::new(2, &[1], 19), &row, 0, 2, &x, &["  0  8 1  18   1  0 -   0"]);
+    printed(&AhtChannelPlan::new(2, &[4], 13), &row, 0, 2, &x, &["  0  8 4  12   1  0 -   0"]);
+    printed(&AhtChannelPlan::new(3, &[1], 23), &row, 0, 2, &x, &["  0  8 1  18   1  0 -   0"]);
+    printed(&AhtChannelPlan::new(3, &[2], 17), &row, 0, 2, &x, &["  0  8 2  12   1  0 -   0"]);
+    printed(&AhtChannelPlan::new(3, &[4], 17), &row, 0, 2, &x, &["  0  8 4  12   1  0 -   0"]);
+}
+
+#[test]
+fn pages_from_a_later_bin() {
+    // bins below start and from end on are not looked at; bin 4 has one component that takes a large code, bin 6 six
+    let row = [20, 255, 8, 3, 12, 17, 16, 99];
+    let mut x = [0.0; 48];
+    x[..12].fill(f32::NAN);
+    x[4 * 6 + 2] = 1.0;
+    x[6 * 6..7 * 6].fill(-1.0);
+    x[7 * 6..].fill(f32::INFINITY);
+    // Gk 1: 6 × 3 bits, an index of 4 bits, 6 × 7, 6 × 12 and 6 × 11
+    let plan = AhtChannelPlan::new(0, &[], 18 + 4 + 42 + 72 + 66);
+    printed(&plan, &row, 2, 7, &x, &["  2  8 -  18   3  3 -   4   4 12 -  42   5 17 -  72", "  6 16 -  66"]);
+    // in mode 1 hebap 12 and 16 have no gain of their own; bin 2 at Gk 2: 6 × 2
+    let plan = AhtChannelPlan::new(1, &[2], 1 + 12 + 4 + 42 + 72 + 66);
+    printed(&plan, &row, 2, 7, &x, &["  2  8 2  12   3  3 -   4   4 12 -  42   5 17 -  72", "  6 16 -  66"]);
+    // the best: at Gk 4 bin 2 has 6 × 1, bin 4 5 × 5 + 5 + 7
+    let plan = AhtChannelPlan::new(2, &[4, 4, 1], 3 + 6 + 4 + 37 + 72 + 66);
+    assert_eq!(plan_aht_channel(&row, 2, 7, &x).as_ref(), Ok(&plan));
+    printed(&plan, &row, 2, 7, &x, &["  2  8 4   6   3  3 -   4   4 12 4  37   5 17 -  72", "  6 16 1  66"]);
+    // not the best: bin 4 at Gk 2 has 5 × 6 + 6 + 6, bin 6 at Gk 4 6 × (9 + 11)
+    let plan = AhtChannelPlan::new(3, &[1, 2, 4], 5 + 18 + 4 + 42 + 72 + 120);
+    printed(&plan, &row, 2, 7, &x, &["  2  8 1  18   3  3 -   4   4 12 2  42   5 17 -  72", "  6 16 4 120"]);
+}
+
+#[test]
+fn pages_of_many_bins() {
+    // the bits of zeros: for each hebap at Gk 1, and for hebap 8 to 16 at Gk 4
+    let ones = [0, 2, 3, 4, 5, 7, 8, 9, 18, 24, 30, 36, 42, 48, 54, 60, 66, 72, 84, 96];
+    let fours = [6, 12, 18, 24, 30, 36, 42, 48, 54];
+    let row: Vec<u8> = (0..256).map(|k| (k * 7 % 20) as u8).collect();
+    let x = [0.0; 6 * 256];
+    for (start, end, count) in [(9, 13, 1), (0, 200, 1), (0, 201, 2), (56, 256, 1), (55, 256, 2), (0, 256, 2)] {
+        for mode in [0, 3] {
+            let (mut cells, mut gains, mut payload) = (Vec::new(), Vec::new(), 0);
+            for (bin, &hebap) in row.iter().enumerate().take(end).skip(start) {
+                let h = usize::from(hebap);
+                let (gk, bits) = if has_gain(mode, hebap) { ('4', fours[h - 8]) } else { ('-', ones[h]) };
+                if gk == '4' {
+                    gains.push(4);
+                }
+                payload += bits;
+                cells.push(format!("{bin:3} {h:2} {gk} {bits:3}"));
+            }
+            payload += 5 * gains.len().div_ceil(3) as u32;
+            let lines: Vec<String> = cells.chunks(4).map(|c| c.join(" ")).collect();
+            let lines: Vec<&str> = lines.iter().map(|l| l.as_str()).collect();
+            assert_eq!(pages(&lines).len(), 3250 * count);
+            printed(&AhtChannelPlan::new(mode, &gains, payload), &row, start, end, &x, &lines);
+        }
+    }
+}
+
+#[test]
+fn no_bins_no_page() {
+    let (row, x) = ([255; 256], [f32::NAN; 6 * 256]);
+    for at in [0, 7, 200, 256] {
+        for mode in 0..4 {
+            let none = AhtChannelPlan::new(mode, &[], 0);
+            for len in [0, 1, 6500] {
+                let mut out = patterned(len);
+                assert_eq!(print_pages(&none, &row, at, at, &x, &mut out), Ok(0));
+                assert_eq!(out, patterned(len));
+            }
+        }
+        // what does not fit no bins is refused all the same
+        for p in [AhtChannelPlan::new(4, &[], 0), AhtChannelPlan::new(1, &[1], 0), AhtChannelPlan::new(0, &[], 1)] {
+            assert_eq!(print_pages(&p, &row, at, at, &x, &mut []), Err(Refusal::PlanDoesNotFit));
+        }
+    }
+}
+
 /// A channel that the calls accept, with room around it, to make one fault in.
 struct Call {
     row: Vec<u8>,
@@ -260,6 +378,8 @@ struct Call {
     plan: AhtChannelPlan,
     out: Vec<u8>,
     at: Position,
+    /// The output of the pages, which it just holds.
+    page: Vec<u8>,
     /// A field of the channel at `at`, for the reader.
     src: Vec<u8>,
     got: Outputs,
@@ -275,7 +395,8 @@ impl Call {
         let len = (11 + plan.total_bits() as usize).div_ceil(8);
         let mut src = patterned(len);
         write_aht_channel(&plan, &row, 0, 5, &x, &mut src, &mut position(11)).unwrap();
-        Call { row, start: 0, end: 5, x, plan, out: patterned(len), at: position(11), src, got: Outputs::patterned(5) }
+        let (out, page, got) = (patterned(len), patterned(3250), Outputs::patterned(5));
+        Call { row, start: 0, end: 5, x, plan, out, at: position(11), page, src, got }
     }
 
     fn with(fault: impl FnOnce(&mut Call)) -> Call {
@@ -296,6 +417,14 @@ impl Call {
         answer
     }
 
+    /// Prints; where it is refused, the output must be as it was.
+    fn print(&mut self) -> Result<usize, Refusal> {
+        let before = self.page.clone();
+        let answer = print_pages(&self.plan, &self.row, self.start, self.end, &self.x, &mut self.page);
+        assert_eq!(answer.is_err(), before == self.page);
+        answer
+    }
+
     /// Reads; where it is refused, every output and the position must be as they were.
     fn read(&mut self) -> Result<AhtChannel, Refusal> {
         let before = (self.got.bits(), self.at);
@@ -305,10 +434,11 @@ impl Call {
     }
 }
 
-/// Plan, write and read with the same fault are refused for the same cause.
+/// Plan, write, print and read with the same fault are refused for the same cause.
 fn all_refuse(want: Refusal, fault: impl Fn(&mut Call)) {
     assert_eq!(Call::with(&fault).plan(), Err(want));
     assert_eq!(Call::with(&fault).write(), Err(want));
+    assert_eq!(Call::with(&fault).print(), Err(want));
     assert_eq!(Call::with(&fault).read(), Err(want));
 }
 
@@ -316,6 +446,7 @@ fn all_refuse(want: Refusal, fault: impl Fn(&mut Call)) {
 fn the_good_call_is_accepted() {
     assert!(Call::good().plan().is_ok());
     assert_eq!(Call::good().write(), Ok(()));
+    assert_eq!(Call::good().print(), Ok(3250));
     assert_eq!(Call::good().read().unwrap().gains(), [4, 2, 2, 2]);
 }
 
@@ -345,6 +476,7 @@ fn refusal_3_too_short() {
     for short in [|c: &mut Call| c.x.truncate(29), |c: &mut Call| c.x.clear()] {
         assert_eq!(Call::with(short).plan(), Err(Refusal::TooShort));
         assert_eq!(Call::with(short).write(), Err(Refusal::TooShort));
+        assert_eq!(Call::with(short).print(), Err(Refusal::TooShort));
     }
     let shorts: [fn(&mut Call); 3] = [|c| c.got.values.truncate(29), |c| c.got.exact.truncate(29), |c| c.got.indices.truncate(4)];
     for short in shorts {
@@ -366,6 +498,7 @@ fn refusal_5_component_too_large() {
     for bad in [f32::NAN, f32::INFINITY, -f32::INFINITY, above, -above] {
         assert_eq!(Call::with(|c| c.x[29] = bad).plan(), Err(Refusal::ComponentTooLarge));
         assert_eq!(Call::with(|c| c.x[29] = bad).write(), Err(Refusal::ComponentTooLarge));
+        assert_eq!(Call::with(|c| c.x[29] = bad).print(), Err(Refusal::ComponentTooLarge));
         let x = [0.0, 0.0, 0.0, bad, 0.0, 0.0];
         assert_eq!(vq_search(1, &x), Err(Refusal::ComponentTooLarge));
         assert_eq!(quantise_scalar(8, 1, bad), Err(Refusal::ComponentTooLarge));
@@ -399,9 +532,12 @@ fn refusal_6_plan_does_not_fit() {
     ];
     for p in plans {
         assert_eq!(Call::with(|c| c.plan = p.clone()).write(), Err(Refusal::PlanDoesNotFit), "{p:?}");
+        assert_eq!(Call::with(|c| c.plan = p.clone()).print(), Err(Refusal::PlanDoesNotFit), "{p:?}");
     }
     // 6 comes before 7
     assert_eq!(Call::with(|c| (c.plan, c.out) = (AhtChannelPlan::new(4, &[], 0), Vec::new())).write(), Err(Refusal::PlanDoesNotFit));
+    let misfit = AhtChannelPlan::new(4, &[], 0);
+    assert_eq!(Call::with(|c| (c.plan, c.page) = (misfit, Vec::new())).print(), Err(Refusal::PlanDoesNotFit));
     // such plans say what they were made of
     let many = AhtChannelPlan::new(9, &[7; 257], u32::MAX);
     assert_eq!((many.gaqmod(), many.gains(), many.count(), many.total_bits()), (9, &[7; 256][..], 257, (1 << 32) + 1));
@@ -419,6 +555,9 @@ fn refusal_7_output_ends() {
     ];
     for fault in faults {
         assert_eq!(Call::with(fault).write(), Err(Refusal::OutputEnds));
+    }
+    for len in [0, 65, 3249] {
+        assert_eq!(Call::with(|c| c.page.truncate(len)).print(), Err(Refusal::OutputEnds));
     }
 }
 

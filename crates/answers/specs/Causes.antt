@@ -29,7 +29,7 @@ component = 5
 abbrev pub planMisfit : ℕ
 planMisfit = 6
 
--- too few bits in the output, or the position past its end
+-- the output too short from the position on, or for the pages, or the position past its end
 abbrev pub outputFull : ℕ
 outputFull = 7
 

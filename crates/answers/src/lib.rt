@@ -15,7 +15,7 @@ pub const HEBAP_ABOVE_19: u8 = 4;
 pub const COMPONENT: u8 = 5;
 // the plan does not fit the row and the vectors
 pub const PLAN_MISFIT: u8 = 6;
-// the output has too few bits from the position on, or the position is past its end
+// the output is too short from the position on, or for the pages, or the position is past its end
 pub const OUTPUT_FULL: u8 = 7;
 // the input runs out, or the position is past its end
 pub const INPUT_ENDS: u8 = 8;

@@ -5,28 +5,34 @@ use mathlib.Core.List.{List, _∷_, _++_, map, append-assoc}
 use mathlib.Core.Bool.{Bool, true, false, cond}
 use native.Mathlib.Omega.{arith}
 use native.Mathlib.Nat.{le-trans, le-of-eq, suc-add, min-le-left}
-use borrow.Author.Tests.{ne-eqb, eqb-true}
+use borrow.Author.Tests.{ne-eqb, eqb-true, le-leb}
 use lib.Dec.{eqb}
 use lib.Ieee.{Float}
 use lib.ListN.{length, take, drop, replicate, length-append, length-take, length-drop, length-map, length-replicate, replicate-append-replicate}
 use lib.Seq.{take-append-le, drop-append-le}
 use Rattle.bits.specs.Bits.{numberOf, bitsOf, bytesOf, splice, posOf, bytesWith}
+use Rattle.answers.specs.declared.SizeResult.{SizeResult}
 use Rattle.bits.specs.declared.BitPos.{BitPos}
 use Rattle.writer.specs.declared.ChannelWrite.{ChannelWrite}
 use Rattle.writer.specs.declared.ChannelWrite.the-variants.{Done}
 use Rattle.bits.proofs.Laws.{bitsOf-append, length-bitsOf, length-with, splice-read}
+use Rattle.planner.specs.Fit.{planCause}
 use Rattle.planner.specs.Planning.{planned, totalOf}
-use Rattle.planner.proofs.Answer.{refusal-is, cause-most}
+use Rattle.planner.proofs.Answer.{refusal-is, cause-most, plan-cause-fit, few-gains as gains-few}
 use Rattle.planner.specs.declared.Plan.{Plan}
 use Rattle.planner.specs.declared.Planned.{Planned}
 use Rattle.writer.specs.Written.{fieldOf, channelWrite, channelWritten}
-use Rattle.writer.proofs.Call.{count-few}
 use Rattle.writer.proofs.Planned.{within, fits, field-long as long-field, few-bits as bits-few, is-written as field-written}
 use Rattle.plantext.specs.PlanText.{planText, refusedText}
-use Rattle.plantext.proofs.Printing.{plan-text-fits, refused-text-fits, plan-no-refusal, digit-not-13}
+use Rattle.plantext.proofs.Printing.{plan-text-fits, refused-text-fits, plan-no-refusal, digit-not-13, refused-sample}
+use Rattle.pages.specs.Pages.{pageCount, pagesLength, pagesText}
+use Rattle.pages.specs.Printing.{pagesCause, pagesPrint, pagesPrinted}
+use Rattle.pages.proofs.Call.{pages-long}
 use Rattle.desktext.specs.Printed.{componentOf}
 use Rattle.desktext.specs.Channel.{TextChannel, channel, none, channelIn, textAnswer, rowAfter, vectorsAfter}
-use Rattle.desktext.specs.Desk.{fieldBytes, planAnswer, channelAnswer, deskAnswer}
+use Rattle.desktext.specs.Desk.{fieldBytes, viewOf, planAnswer, channelAnswer, deskAnswer}
+use Rattle.desktext.specs.declared.View.{View}
+use Rattle.desktext.specs.declared.View.the-variants.{WithField, OnPages}
 use Rattle.desktext.specs.declared.DeskText.{DeskText}
 use Rattle.desktext.proofs.Texts.{text-read}
 
@@ -68,16 +74,16 @@ module _ (row : List ℕ) (start end : ℕ) (x : List Float) (r : Planned) (is :
   abbrev p : Plan
   p = r .plan
 
-  pub plan-refused : (r .refusal ≡ 0 → ⊥) → refusedText (r .refusal) ≡ planAnswer row start end x
+  pub plan-refused : (v : View) → (r .refusal ≡ 0 → ⊥) → refusedText (r .refusal) ≡ planAnswer v row start end x
   unfolding planAnswer
-  plan-refused n = rw (sym is, ne-eqb (r .refusal) 0 n)
+  plan-refused v n = rw (sym is, ne-eqb (r .refusal) 0 n)
 
   module _ (given : r .refusal ≡ 0) where
     planned-given : planned row start end x .refusal ≡ 0
     planned-given = rw (sym is) given
 
     pub few-gains : p .count ≤ 256
-    few-gains = rw is (count-few (planned row start end x .plan) row start end x (within row start end x planned-given) (fits row start end x planned-given))
+    few-gains = rw is (gains-few (planned row start end x .plan) row start end x (within row start end x planned-given) (fits row start end x planned-given))
 
     -- ---- its field
     field-long : length (fieldOf p row start end x) ≡ totalOf p
@@ -110,7 +116,7 @@ module _ (row : List ℕ) (start end : ℕ) (x : List Float) (r : Planned) (is :
             let l : length after ≡ 8192 = ap length (put ∙ is-written .1) ∙ length-with room 0 (fieldOf p row start end x) ∙ long in
             omega arith
 
-        pub plan-given : planText p (take ((totalOf p + 7) / 8) after) ≡ planAnswer row start end x
+        pub plan-given : planText p (take ((totalOf p + 7) / 8) after) ≡ planAnswer WithField row start end x
         unfolding planAnswer
         plan-given =
             let f = few-bits in
@@ -122,11 +128,46 @@ module _ (row : List ℕ) (start end : ℕ) (x : List Float) (r : Planned) (is :
             ∙ zeros-front 8192 n bs (omega arith) (omega arith) ∙ ap (λ (m : ℕ). bytesWith (replicate ((m + 7) / 8) 0) 0 bs) (sym l) in
             rw (sym is, given, b)
 
+    -- ---- its pages: the output holds them
+    no-cause : planCause p row start end x ≡ 0
+    no-cause = rw is (sym (plan-cause-fit (planned row start end x .plan) row start end x true (sym (refusal-is row start end x) ∙ planned-given) (sym (fits row start end x planned-given))))
+
+    pub pages-most : pagesLength start end ≤ 6500
+    unfolding pageCount
+    pages-most = let f = within row start end x planned-given .row-ok .few in omega arith
+
+    module _ (out : List ℕ) (long : 32768 ≤ length out) where
+      is-printed : (pagesPrint p row start end x out ≡ SizeResult.Value (pagesLength start end)) × (pagesPrinted p row start end x out ≡ splice out 0 (pagesText p row start end x))
+      unfolding pagesPrint pagesPrinted pagesCause
+      is-printed = let m = pages-most in rw (no-cause, le-leb (pagesLength start end) (length out) (omega arith)) (refl, refl)
+
+      pub pages-never-refused : (w : SizeResult) (k : ℕ) → w ≡ pagesPrint p row start end x out → w ≡ SizeResult.Refused k → ⊥
+      pages-never-refused w k e f = no-print (pagesLength start end) k (sym (is-printed .0) ∙ sym e ∙ f)
+        where
+          no-print : (n k : ℕ) → SizeResult.Value n ≡ SizeResult.Refused k → ⊥
+          no-print n k e = let z : _≡_ {A = ℕ} 0 1 = cc in omega arith
+
+      pub pages-given : (w : SizeResult) (n : ℕ) (after : List ℕ) → w ≡ pagesPrint p row start end x out → w ≡ SizeResult.Value n → after ≡ pagesPrinted p row start end x out
+          → (n ≡ length (planAnswer OnPages row start end x)) × (after ≡ splice out 0 (planAnswer OnPages row start end x))
+      unfolding planAnswer
+      pages-given w n after e f g =
+          let i = is-printed in
+          let z : SizeResult.Value n ≡ SizeResult.Value (pagesLength start end) = sym f ∙ e ∙ i .0 in
+          let k : n ≡ pagesLength start end = cc in
+          rw (sym is, given) (k ∙ sym (pages-long p row start end x), g ∙ i .1)
+
 -- ---- it is never (refused 13), and it fits the output
 module _ (row : List ℕ) (start end : ℕ) (x : List Float) where
-  pub plan-never-13 : planAnswer row start end x ≡ refusedText 13 → ⊥
+  view-no-refusal : (v : View) (p : Plan) → viewOf v p row start end x ≡ refusedText 13 → ⊥
+  view-no-refusal WithField p e = plan-no-refusal p _ 13 e
+  view-no-refusal OnPages p e =
+      let l = pages-long p row start end x in
+      let m : pagesLength start end ≡ 13 = sym l ∙ ap length (e ∙ refused-sample) in
+      omega arith
+
+  pub plan-never-13 : (v : View) → planAnswer v row start end x ≡ refusedText 13 → ⊥
   unfolding planAnswer
-  plan-never-13 e = go (eqb (planned row start end x .refusal) 0) e
+  plan-never-13 v e = go (eqb (planned row start end x .refusal) 0) e
     where
       p : Plan
       p = planned row start end x .plan
@@ -134,39 +175,41 @@ module _ (row : List ℕ) (start end : ℕ) (x : List Float) where
       few : planned row start end x .refusal < 10
       few = let h = cause-most row start end x in omega (arith, refusal-is row start end x)
 
-      go : (b : Bool) → cond b (planText p (fieldBytes (fieldOf p row start end x))) (refusedText (planned row start end x .refusal)) ≡ refusedText 13 → ⊥
-      go true f = plan-no-refusal p _ 13 f
+      go : (b : Bool) → cond b (viewOf v p row start end x) (refusedText (planned row start end x .refusal)) ≡ refusedText 13 → ⊥
+      go true f = view-no-refusal v p f
       go false f = digit-not-13 _ few f
 
-  pub plan-fits : length (planAnswer row start end x) ≤ 32768
+  view-fits : (v : View) → planned row start end x .refusal ≡ 0 → length (viewOf v (planned row start end x .plan) row start end x) ≤ 32768
+  view-fits WithField g =
+      let p = planned row start end x .plan in
+      let bs = fieldOf p row start end x in
+      let n = few-gains row start end x (planned row start end x) refl g in
+      let m = few-bits row start end x (planned row start end x) refl g in
+      let l = field-long row start end x (planned row start end x) refl g in
+      let t = min-le-left (p .count) (length (p .gains)) in
+      let w : length (fieldBytes bs) ≡ (length bs + 7) / 8 = length-with (replicate ((length bs + 7) / 8) 0) 0 bs ∙ length-replicate _ 0 in
+      let h = plan-text-fits p (fieldBytes bs) in
+      omega (arith, length-take (p .count) (p .gains))
+  view-fits OnPages g =
+      let m = pages-most row start end x (planned row start end x) refl g in
+      let l = pages-long (planned row start end x .plan) row start end x in
+      omega arith
+
+  pub plan-fits : (v : View) → length (planAnswer v row start end x) ≤ 32768
   unfolding planAnswer
-  plan-fits = go (eqb (planned row start end x .refusal) 0) refl
+  plan-fits v = go (eqb (planned row start end x .refusal) 0) refl
     where
-      p : Plan
-      p = planned row start end x .plan
-
-      bs : List Bool
-      bs = fieldOf p row start end x
-
-      go : (b : Bool) → eqb (planned row start end x .refusal) 0 ≡ b → length (cond b (planText p (fieldBytes bs)) (refusedText (planned row start end x .refusal))) ≤ 32768
-      go true f =
-          let g = eqb-true (planned row start end x .refusal) 0 f in
-          let n = few-gains row start end x (planned row start end x) refl g in
-          let m = few-bits row start end x (planned row start end x) refl g in
-          let l = field-long row start end x (planned row start end x) refl g in
-          let t = min-le-left (p .count) (length (p .gains)) in
-          let w : length (fieldBytes bs) ≡ (length bs + 7) / 8 = length-with (replicate ((length bs + 7) / 8) 0) 0 bs ∙ length-replicate _ 0 in
-          let h = plan-text-fits p (fieldBytes bs) in
-          omega (arith, length-take (p .count) (p .gains))
+      go : (b : Bool) → eqb (planned row start end x .refusal) 0 ≡ b → length (cond b (viewOf v (planned row start end x .plan) row start end x) (refusedText (planned row start end x .refusal))) ≤ 32768
+      go true f = view-fits v (eqb-true (planned row start end x .refusal) 0 f)
       go false f = let h = refused-text-fits (planned row start end x .refusal) in omega arith
 
 -- ---- the channel of a text
-module _ (s : List ℕ) (r : DeskText) (is : r ≡ textAnswer (channelIn s)) where
-  pub text-none : (k : ℕ) → r ≡ DeskText.Refused k → refusedText k ≡ deskAnswer s
+module _ (v : View) (s : List ℕ) (r : DeskText) (is : r ≡ textAnswer (channelIn s)) where
+  pub text-none : (k : ℕ) → r ≡ DeskText.Refused k → refusedText k ≡ deskAnswer v s
   unfolding deskAnswer
   text-none k e = go (channelIn s) (sym e ∙ is)
     where
-      go : (c : TextChannel) → DeskText.Refused k ≡ textAnswer c → refusedText k ≡ channelAnswer c
+      go : (c : TextChannel) → DeskText.Refused k ≡ textAnswer c → refusedText k ≡ channelAnswer v c
       go none f = let z : k ≡ 13 = cc in ap refusedText z
       go (channel a b row vs) f = absurd (let z : _≡_ {A = ℕ} 0 1 = cc in omega arith)
 
@@ -180,12 +223,12 @@ module _ (s : List ℕ) (r : DeskText) (is : r ≡ textAnswer (channelIn s)) whe
         go (channel i j row vs) g f = let z : n ≡ length row = cc in le-trans (le-of-eq z) (text-read s i j row vs .1 g .allowed .few)
 
     pub text-channel : (out row : List ℕ) (xs x : List Float) → row ≡ rowAfter (channelIn s) out → x ≡ vectorsAfter (channelIn s) xs
-        → planAnswer (take n row) a b (take (6 * n) x) ≡ deskAnswer s
+        → planAnswer v (take n row) a b (take (6 * n) x) ≡ deskAnswer v s
     unfolding deskAnswer
     text-channel out row xs x er ex = go (channelIn s) refl (sym e ∙ is) er ex
       where
         go : (c : TextChannel) → channelIn s ≡ c → DeskText.Channel a b n ≡ textAnswer c → row ≡ rowAfter c out → x ≡ vectorsAfter c xs
-            → planAnswer (take n row) a b (take (6 * n) x) ≡ channelAnswer c
+            → planAnswer v (take n row) a b (take (6 * n) x) ≡ channelAnswer v c
         go none g f er ex = absurd (let z : _≡_ {A = ℕ} 0 1 = cc in omega arith)
         go (channel i j hs vs) g f er ex =
             let za : a ≡ i = cc in
@@ -193,5 +236,5 @@ module _ (s : List ℕ) (r : DeskText) (is : r ≡ textAnswer (channelIn s)) whe
             let zn : n ≡ length hs = cc in
             let l : length (map componentOf vs) ≡ 6 * length hs = length-map vs componentOf ∙ text-read s i j hs vs .1 g .allowed .six in
             let u : take n row ≡ hs = rw (er, zn) (splice-read out hs 0 (omega arith)) in
-            let v : take (6 * n) x ≡ map componentOf vs = rw (ex, zn, sym l) (splice-read xs (map componentOf vs) 0 (omega arith)) in
-            rw (u, v, za, zb)
+            let w : take (6 * n) x ≡ map componentOf vs = rw (ex, zn, sym l) (splice-read xs (map componentOf vs) 0 (omega arith)) in
+            rw (u, w, za, zb)

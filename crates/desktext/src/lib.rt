@@ -6,6 +6,8 @@ ghost use Rattle.bits.specs.Bits.{splice};
 ghost use Rattle.desktext.specs.Channel.{channelIn, textAnswer, rowAfter, vectorsAfter};
 ghost use Rattle.desktext.specs.Desk.{planAnswer, deskAnswer};
 ghost use Rattle.desktext.specs.Work.{longest};
+ghost use Rattle.desktext.specs.declared.View.the-variants.{WithField, OnPages};
+use answers::SizeResult;
 use bits::BitPos;
 use writer::ChannelWrite;
 
@@ -41,6 +43,12 @@ pub enum Checked {
 pub enum DeskText {
     Channel(u32, u32, usize),
     Refused(u8),
+}
+
+// How a plan is printed: with its field, or on pages.
+pub enum View {
+    WithField,
+    OnPages,
 }
 
 // Tokens: the number k is LARGEST + k, up to LAST_NUMBER; LAST_ROW is 255. The brackets come after them.
@@ -91,9 +99,9 @@ pub fn read_text(text: &[u8], row: &mut [u8; 256], vectors: &mut [f32; 1536]) ->
     read_with(text, &mut *row, &mut *vectors, &mut work)
 }
 
-// The plan of the bins start to end - 1, or its refusal, goes to the front of the output as text.
+// The plan of the bins start to end - 1 with its field, or its refusal, goes to the front of the output as text.
 // Returns how many bytes that is.
-fn print_channel(
+fn print_with_field(
     out: &mut [u8],
     row: &[u8],
     start: usize,
@@ -103,8 +111,8 @@ fn print_channel(
 ) -> usize
     requires { ⌜ 32768 ≤ length (now out) ⌝ }
     requires { ⌜ now field ≡ replicate 8192 0 ⌝ }
-    ensures { λ r. ⌜ r ≡ length (planAnswer (now (row .entry)) start end (now (x .entry))) ⌝ }
-    ensures { λ r. ⌜ now (out .exit) ≡ splice (now (out .entry)) 0 (planAnswer (now (row .entry)) start end (now (x .entry))) ⌝ }
+    ensures { λ r. ⌜ r ≡ length (planAnswer WithField (now (row .entry)) start end (now (x .entry))) ⌝ }
+    ensures { λ r. ⌜ now (out .exit) ≡ splice (now (out .entry)) 0 (planAnswer WithField (now (row .entry)) start end (now (x .entry))) ⌝ }
 {
     let planned = planner::plan_aht_channel(row, start, end, x);
     if planned.refusal != 0 {
@@ -122,8 +130,26 @@ fn print_channel(
     }
 }
 
-// The same of the first n numbers of a row, with their vectors.
+// The same on pages.
+fn print_on_pages(out: &mut [u8], row: &[u8], start: usize, end: usize, x: &[f32]) -> usize
+    requires { ⌜ 32768 ≤ length (now out) ⌝ }
+    ensures { λ r. ⌜ r ≡ length (planAnswer OnPages (now (row .entry)) start end (now (x .entry))) ⌝ }
+    ensures { λ r. ⌜ now (out .exit) ≡ splice (now (out .entry)) 0 (planAnswer OnPages (now (row .entry)) start end (now (x .entry))) ⌝ }
+{
+    let planned = planner::plan_aht_channel(row, start, end, x);
+    if planned.refusal != 0 {
+        return plantext::print_refused(out, planned.refusal);
+    }
+    let printed = pages::print_pages(planned.plan, row, start, end, x, &mut *out);
+    match printed {
+        SizeResult::Refused(k) => plantext::print_refused(out, k),
+        SizeResult::Value(n) => n,
+    }
+}
+
+// The same, as it is to be seen, of the first n numbers of a row, with their vectors.
 fn print_front(
+    view: View,
     out: &mut [u8],
     row: &[u8],
     n: usize,
@@ -135,14 +161,20 @@ fn print_front(
     requires { ⌜ 32768 ≤ length (now out) ⌝ }
     requires { ⌜ now field ≡ replicate 8192 0 ⌝ }
     requires { ⌜ (n ≤ length (now row)) × (6 * n ≤ length (now x)) ⌝ }
-    ensures { λ r. ⌜ r ≡ length (planAnswer (take n (now (row .entry))) start end (take (6 * n) (now (x .entry)))) ⌝ }
-    ensures { λ r. ⌜ now (out .exit) ≡ splice (now (out .entry)) 0 (planAnswer (take n (now (row .entry))) start end (take (6 * n) (now (x .entry)))) ⌝ }
+    ensures { λ r. ⌜ r ≡ length (planAnswer view (take n (now (row .entry))) start end (take (6 * n) (now (x .entry)))) ⌝ }
+    ensures { λ r. ⌜ now (out .exit) ≡ splice (now (out .entry)) 0 (planAnswer view (take n (now (row .entry))) start end (take (6 * n) (now (x .entry)))) ⌝ }
 {
-    print_channel(out, &row[..n], start, end, &x[..6 * n], field)
+    let row = &row[..n];
+    let x = &x[..6 * n];
+    match view {
+        View::WithField => print_with_field(out, row, start, end, x, field),
+        View::OnPages => print_on_pages(out, row, start, end, x),
+    }
 }
 
 // The desk's answer, with room to work in.
 fn desk_with(
+    view: View,
     text: &[u8],
     out: &mut [u8],
     row: &mut [u8; 256],
@@ -151,14 +183,15 @@ fn desk_with(
 ) -> usize
     requires { ⌜ 32768 ≤ length (now out) ⌝ }
     requires { ⌜ now field ≡ replicate 8192 0 ⌝ }
-    ensures { λ r. ⌜ r ≡ length (deskAnswer (now (text .entry))) ⌝ }
-    ensures { λ r. ⌜ now (out .exit) ≡ splice (now (out .entry)) 0 (deskAnswer (now (text .entry))) ⌝ }
+    ensures { λ r. ⌜ r ≡ length (deskAnswer view (now (text .entry))) ⌝ }
+    ensures { λ r. ⌜ now (out .exit) ≡ splice (now (out .entry)) 0 (deskAnswer view (now (text .entry))) ⌝ }
 {
     let t = read_text(text, &mut *row, &mut *vectors);
     match t {
         DeskText::Refused(k) => plantext::print_refused(out, k),
         DeskText::Channel(start, end, n) => {
             print_front(
+                view,
                 out,
                 &*row,
                 n,
@@ -171,26 +204,26 @@ fn desk_with(
     }
 }
 
-// The plan of the channel that a text holds, or the refusal, goes to the front of the output as text.
-// Returns how many bytes that is.
-pub fn desk(text: &[u8], out: &mut [u8; 32768]) -> usize
-    ensures { λ r. ⌜ r ≡ length (deskAnswer (now (text .entry))) ⌝ }
-    ensures { λ r. ⌜ now (out .exit) ≡ splice (now (out .entry)) 0 (deskAnswer (now (text .entry))) ⌝ }
+// The plan of the channel that a text holds, with its field or on pages, or the refusal, goes to the front of the
+// output as text. Returns how many bytes that is.
+pub fn desk(view: View, text: &[u8], out: &mut [u8; 32768]) -> usize
+    ensures { λ r. ⌜ r ≡ length (deskAnswer view (now (text .entry))) ⌝ }
+    ensures { λ r. ⌜ now (out .exit) ≡ splice (now (out .entry)) 0 (deskAnswer view (now (text .entry))) ⌝ }
 {
     let mut row = [0u8; 256];
     let mut vectors = [0.0f32; 1536];
     let mut field = [0u8; 8192];
-    desk_with(text, &mut *out, &mut row, &mut vectors, &mut field)
+    desk_with(view, text, &mut *out, &mut row, &mut vectors, &mut field)
 }
 
 // The same of a text that is the first n bytes of an input, or all of it where it has no more. The answer fits.
-pub fn desk_from(input: &[u8], n: usize, out: &mut [u8; 32768]) -> usize
-    ensures { λ r. ⌜ r ≡ length (deskAnswer (take n (now (input .entry)))) ⌝ }
-    ensures { λ r. ⌜ now (out .exit) ≡ splice (now (out .entry)) 0 (deskAnswer (take n (now (input .entry)))) ⌝ }
+pub fn desk_from(view: View, input: &[u8], n: usize, out: &mut [u8; 32768]) -> usize
+    ensures { λ r. ⌜ r ≡ length (deskAnswer view (take n (now (input .entry)))) ⌝ }
+    ensures { λ r. ⌜ now (out .exit) ≡ splice (now (out .entry)) 0 (deskAnswer view (take n (now (input .entry)))) ⌝ }
     ensures { λ r. ⌜ r ≤ 32768 ⌝ }
 {
     if n < input.len() {
-        return desk(&input[..n], &mut *out);
+        return desk(view, &input[..n], &mut *out);
     }
-    desk(input, &mut *out)
+    desk(view, input, &mut *out)
 }

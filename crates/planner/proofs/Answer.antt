@@ -11,6 +11,7 @@ use lib.Seq.{take-take}
 use lib.Ieee.{Float}
 use Rattle.answers.specs.Causes as cause
 use Rattle.levels.specs.Component.{someTooLarge}
+use Rattle.bits.proofs.Tests.{both}
 use Rattle.channel.specs.Bins.{someOver}
 use Rattle.channel.specs.Row.{noGains, sixOf, rowCause}
 use Rattle.channel.proofs.Over.{none-of}
@@ -18,12 +19,12 @@ use Rattle.channel.proofs.Rows.{row-ok, cause-4-or-0, count-most, row-cause-mos
 use Rattle.planner.specs.Choice.{leastUpTo, leastOf, planMode, planGains, planPayload, choiceBits, Choice, gainsOver}
 use Rattle.planner.specs.Work.{modeAt, TalliesOf, payloadIn, Within}
 use Rattle.planner.specs.Planning.{tooLargeAt, beyondAt, refusalOf, planOf, causeOf, causeUpTo, planned, plannedUpTo, totalOf, gainsOf}
-use Rattle.planner.specs.Fit.{planFits}
+use Rattle.planner.specs.Fit.{planFits, planCause, planCauseUpTo}
 use Rattle.planner.specs.declared.Plan.{Plan}
 use Rattle.planner.specs.declared.Planned.{Planned}
 use Rattle.planner.proofs.Optimal.{first-least, least-same, gains-length, plan-choice, plan-least, plan-lowest}
 use Rattle.planner.proofs.Tallies.{payload-is}
-use Rattle.planner.proofs.Chosen.{fits-choice, plan-fits}
+use Rattle.planner.proofs.Chosen.{fits-parts, fits-choice, plan-fits}
 
 -- ---- the plan of what was kept of the modes
 module _ (row : List ℕ) (x : List Float) (start end plain : ℕ) (bits used kept : List ℕ) (few : end ≤ 256) (p : TalliesOf row x start end plain (modeAt bits used kept))
@@ -201,3 +202,40 @@ module _ (row : List ℕ) (start end : ℕ) (x : List Float) (h : planned row st
   pub answer-lowest : (mode : ℕ) (gains : List ℕ) → Choice mode gains row start end → mode < planned row start end x .plan .mode → totalOf (planned row start end x .plan) < choiceBits mode gains row x start end
   unfolding planOf
   answer-lowest mode gains c l = rw (answer-plan row start end x h) (plan-lowest mode gains row x start end c (rw (answer-plan row start end x h) at l))
+
+-- ---- the cause of a plan that is given
+module _ (p : Plan) (row : List ℕ) (start end : ℕ) (x : List Float) where
+  pub plan-cause-row : (k : ℕ) → k ≡ causeOf row start end x → (k ≡ 0 → ⊥) → k ≡ planCause p row start end x
+  unfolding planCauseUpTo
+  plan-cause-row k e n = rw (sym e, ne-eqb k 0 n)
+
+  pub plan-cause-fit : (t : Bool) → causeOf row start end x ≡ 0 → t ≡ planFits p row start end x → cond t 0 6 ≡ planCause p row start end x
+  unfolding planCauseUpTo
+  plan-cause-fit t z e = sym (rw (z, sym e) refl)
+
+  -- Where it is 0, none of the six holds.
+  pub plan-cause-none : planCause p row start end x ≡ 0 → (causeOf row start end x ≡ 0) × (planFits p row start end x ≡ true)
+  unfolding planCauseUpTo
+  plan-cause-none = go (causeOf row start end x) (eqb (causeOf row start end x) 0) refl (planFits p row start end x)
+    where
+      go : (k : ℕ) (z : Bool) → eqb k 0 ≡ z → (t : Bool) → cond z (cond t 0 6) k ≡ 0 → (k ≡ 0) × (t ≡ true)
+      go k true e true h = (eqb-true k 0 e, refl)
+      go k true e false h = absurd (omega arith)
+      go k false e t h = absurd (eqb-false k 0 e h)
+
+-- ---- a plan that fits
+module _ (p : Plan) (row : List ℕ) (start end : ℕ) (x : List Float) where
+  -- has no more gains than there are places,
+  pub few-gains : Within row start end x → planFits p row start end x ≡ true → p .count ≤ 256
+  unfolding planFits
+  few-gains within fits =
+      let e = fits-parts (p .mode) (p .gains) (p .count) row start end (both _ _ fits .0) .1 in
+      let m = count-most (p .mode) row start end in
+      let f = within .row-ok .few in
+      omega arith
+
+  -- and is a choice that has its total as bits
+  pub fitting : planFits p row start end x ≡ true → p .count ≤ length (p .gains)
+      → Choice (p .mode) (gainsOf p) row start end × (choiceBits (p .mode) (gainsOf p) row x start end ≡ totalOf p)
+  unfolding choiceBits
+  fitting fits few = let c = fits-choice p row start end x few fits in (c .0, ap (λ (b : ℕ). 2 + b) (sym (c .1)))

@@ -1,11 +1,12 @@
--- What the planner answered at a limit, it answers at a wider one. Assumes nothing.
-use Prim.Native.Nat.{ℕ, _*_, _≤_}
+-- What the planner answered at a limit, and a plan's cause, it answers at a wider one. Assumes nothing.
+use Prim.Native.Nat.{ℕ, _*_, _≤_, _<_}
 use mathlib.Core.Path.{_≡_, refl, sym, _∙_, subst}
 use mathlib.Core.Bool.{Bool, true, false, cond, not, _&&_}
 use mathlib.Core.List.{List}
-use mathlib.Core.Logic.{inl}
+use mathlib.Core.Logic.{inl, inr}
 use native.Mathlib.Omega.{arith}
-use lib.Dec.{eqb, ltb}
+use borrow.Author.Tests.{ne-eqb}
+use lib.Dec.{eqb, ltb, lit<}
 use lib.ListN.{length, getD}
 use lib.Ieee.{Float}
 use Rattle.answers.specs.Causes as cause
@@ -16,9 +17,43 @@ use Rattle.channel.specs.Row.{sixOf, rowCause}
 use Rattle.channel.proofs.Over.{none-there, none-over}
 use Rattle.channel.proofs.Rows.{row-cause-most}
 use Rattle.planner.specs.Planning.{beyondAt, causeUpTo, refusalOf, planOf, plannedUpTo}
+use Rattle.planner.specs.Fit.{planFits, planCauseUpTo}
+use Rattle.planner.specs.declared.Plan.{Plan}
 use Rattle.planner.specs.declared.Planned.{Planned}
 use Rattle.planner.proofs.Answer.{number-is}
 
+-- ---- causes behind another: rest where that is 0
+abbrev pub behind : ℕ → ℕ → ℕ
+behind rest c = cond (eqb c 0) rest c
+
+not-five : (n : ℕ) → Later n → n ≡ cause.component → ⊥
+not-five n (inl z) e = omega arith
+not-five n (inr z) e = omega arith
+
+module _ (rest : ℕ) (late : Later rest) where
+  behind-five : (c : ℕ) → c ≡ cause.component → behind rest c ≡ cause.component
+  behind-five c e = rw e
+
+  five-only : (c : ℕ) → behind rest c ≡ cause.component → c ≡ cause.component
+  five-only c = go (eqb c 0)
+    where
+      go : (t : Bool) → cond t rest c ≡ cause.component → c ≡ cause.component
+      go true e = absurd (not-five rest late e)
+      go false e = e
+
+  behind-late : (c : ℕ) → Later c → Later (behind rest c)
+  behind-late c (inl z) = rw z late
+  behind-late c (inr z) = rw (ne-eqb c 0 (λ e. omega arith)) (inr z)
+
+  pub behind-widened : (over : Bool) (c d : ℕ) → Widened (λ (n : ℕ). n) over c d → Widened (λ (n : ℕ). n) over (behind rest c) (behind rest d)
+  behind-widened = made-of (λ (n : ℕ). n) (λ (n : ℕ). n) (behind rest) behind-five five-only behind-late
+
+-- nothing, or a cause from 6 on
+pub own-late : (fine : Bool) (c : ℕ) → cause.component < c → Later (cond fine cause.none c)
+own-late true c h = inl refl
+own-late false c h = inr h
+
+-- ----
 module _ (l l′ : ℕ) (w : l ≤ l′) (row : List ℕ) (start end : ℕ) (x : List Float) where
   bin-wider : (k : ℕ) → beyondAt l row x k ≡ false → beyondAt l′ row x k ≡ false
   unfolding beyondAt
@@ -38,6 +73,11 @@ module _ (l l′ : ℕ) (w : l ≤ l′) (row : List ℕ) (start end : ℕ) (x :
       let k = rowCause row start end (ltb (length x) (6 * end)) in
       tested (λ (n : ℕ). n) cause.component cause.none k refl (inl refl) (λ e. let m = row-cause-most row start end (ltb (length x) (6 * end)) in omega arith)
       (eqb k 0) (someOver (beyondAt l row x) start end) (someOver (beyondAt l′ row x) start end) bins-wider
+
+  -- and that of a plan
+  pub plan-cause-widened : (p : Plan) → Widened (λ (n : ℕ). n) (someOver (beyondAt l′ row x) start end) (planCauseUpTo l p row start end x) (planCauseUpTo l′ p row start end x)
+  unfolding planCauseUpTo
+  plan-cause-widened p = behind-widened _ (own-late (planFits p row start end x) cause.planMisfit (lit< tt)) _ _ _ cause-widened
 
   -- plan_aht_channel
   pub planned-widened : Widened (λ (p : Planned). p .refusal) (someOver (beyondAt l′ row x) start end) (plannedUpTo l row start end x) (plannedUpTo l′ row start end x)

@@ -1,14 +1,18 @@
--- When a choice, and a plan, fits a row and its vectors, best or not. docs/FORMAT.md, Writer, and cause 6.
+-- When a choice, and a plan, fits a row and its vectors, best or not; causes 1 to 6 of a plan. docs/FORMAT.md, Writer,
+-- and 'Causes and refusals'.
 use Prim.Native.Nat.{ℕ}
-use mathlib.Core.Bool.{Bool, not, _&&_}
+use mathlib.Core.Bool.{Bool, cond, not, _&&_}
 use mathlib.Core.List.{List}
 use lib.Dec.{eqb, leb}
 use lib.ListN.{getD}
 use lib.Ieee.{Float}
+use Rattle.answers.specs.Causes as cause
+use Rattle.levels.specs.Component.{largestSize}
 use Rattle.gains.specs.Gains.{allowedGain}
 use Rattle.channel.specs.Bins.{someOver}
 use Rattle.channel.specs.Row.{activeCount}
 use Rattle.planner.specs.Choice.{payloadOf}
+use Rattle.planner.specs.Planning.{causeUpTo}
 use Rattle.planner.specs.declared.Plan.{Plan}
 
 -- the gain at place i is not allowed
@@ -27,3 +31,13 @@ unfoldable pub planFits : Plan → List ℕ → ℕ → ℕ → List Float → B
 planFits p row start end x =
     choiceFits (p .mode) (p .gains) (p .count) row start end
     && eqb (p .payload) (payloadOf (p .mode) (p .gains) row x start end)
+
+-- 1 to 6, of every call that takes a plan: the lowest that holds, 0 where the plan fits
+unfoldable pub planCauseUpTo : ℕ → Plan → List ℕ → ℕ → ℕ → List Float → ℕ
+planCauseUpTo limit p row start end x =
+    cond (eqb (causeUpTo limit row start end x) 0)
+    (cond (planFits p row start end x) cause.none cause.planMisfit)
+    (causeUpTo limit row start end x)
+
+abbrev pub planCause : Plan → List ℕ → ℕ → ℕ → List Float → ℕ
+planCause = planCauseUpTo largestSize

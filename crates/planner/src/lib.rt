@@ -1,11 +1,14 @@
 // The plan of a channel: which mode and which gains take the fewest bits.
 ghost use mathlib.Core.Path.{_≡_};
+ghost use mathlib.Core.Bool.{cond};
 ghost use Prim.Native.Nat.{_+_, _*_, _<_, _≤_};
 ghost use lib.ListN.{length};
 ghost use Rattle.channel.specs.Bins.{someOver};
-ghost use Rattle.channel.specs.Row.{RowOk};
+ghost use Rattle.gains.specs.Gains.{active};
+ghost use Rattle.channel.specs.Row.{RowOk, sixOf};
+ghost use Rattle.planner.specs.Cost.{binBits};
 ghost use Rattle.planner.specs.Work.{Within};
-ghost use Rattle.planner.specs.Fit.{choiceFits, planFits};
+ghost use Rattle.planner.specs.Fit.{choiceFits, planFits, planCause};
 ghost use Rattle.planner.specs.Planning.{tooLargeAt, refusalOf, planOf, causeOf, planned};
 
 mod fit;
@@ -149,7 +152,7 @@ pub fn choice_fits(
 }
 
 // Whether the plan fits, best or not; none of causes 1 to 4 may hold.
-pub fn plan_fits(p: Plan, hebap: &[u8], start: usize, end: usize, x: &[f32]) -> bool
+fn plan_fits(p: Plan, hebap: &[u8], start: usize, end: usize, x: &[f32]) -> bool
     requires { ⌜ Within (now hebap) start end (now x) ⌝ }
     ensures { λ r. ⌜ r ≡ planFits p (now (hebap .entry)) start end (now (x .entry)) ⌝ }
 {
@@ -162,4 +165,26 @@ pub fn plan_fits(p: Plan, hebap: &[u8], start: usize, end: usize, x: &[f32]) -> 
     p.payload
         == fit::chosen_bits(hebap, start, end, x, mode, &gains)
             + gains::gain_word_bits(mode, count as u32)
+}
+
+// The lowest of causes 1 to 6 that holds, 0 where the plan fits.
+pub fn plan_cause(p: Plan, hebap: &[u8], start: usize, end: usize, x: &[f32]) -> u8
+    ensures { λ r. ⌜ r ≡ planCause p (now (hebap .entry)) start end (now (x .entry)) ⌝ }
+{
+    let k = cause(hebap, start, end, x);
+    if k != 0 {
+        return k;
+    }
+    if plan_fits(p, hebap, start, end, x) {
+        return answers::NONE;
+    }
+    answers::PLAN_MISFIT
+}
+
+// The bits of the bin at its gain; the gain counts where the bin is active.
+pub fn bin_bits(mode: u8, hebap: u8, gain: u8, x: &[f32], bin: usize) -> u32
+    requires { ⌜ (bin < 256) × (6 * bin + 6 ≤ length (now x)) ⌝ }
+    ensures { λ r. ⌜ r ≡ binBits hebap (cond (active mode hebap) gain 1) (sixOf (now (x .entry)) bin) ⌝ }
+{
+    one_bin::bin_bits(mode, hebap, x, 6 * bin, gain)
 }

@@ -227,6 +227,6 @@ unfolding line spaced
 no-gains-line = refl
 
 -- (refused 13)
-refused-sample : refusedText 13 ≡ 40 ∷ 114 ∷ 101 ∷ 102 ∷ 117 ∷ 115 ∷ 101 ∷ 100 ∷ 32 ∷ 49 ∷ 51 ∷ 41 ∷ 10 ∷ []
+pub refused-sample : refusedText 13 ≡ 40 ∷ 114 ∷ 101 ∷ 102 ∷ 117 ∷ 115 ∷ 101 ∷ 100 ∷ 32 ∷ 49 ∷ 51 ∷ 41 ∷ 10 ∷ []
 unfolding refusedText line spaced decimal
 refused-sample = refl

@@ -16,3 +16,4 @@ pub mod AsWritten
 pub mod Greatest
 pub mod Example
 pub mod Earlier
+pub mod OnPages

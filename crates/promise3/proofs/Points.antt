@@ -39,7 +39,7 @@ use Rattle.planner.specs.Cost.{binBits}
 use Rattle.planner.specs.Choice.{cheapest, leastUpTo, chosenAt, payloadOf, choiceBits, Choice, bestGain, leastAt, leastOf, planMode, gainsOver, planGains, planPayload}
 use Rattle.planner.specs.Planning.{beyondAt, planOf, totalOf, causeOf, causeUpTo, planned, plannedUpTo}
 use Rattle.planner.specs.declared.Plan.{Plan}
-use Rattle.planner.specs.Fit.{wrongGain, choiceFits, planFits}
+use Rattle.planner.specs.Fit.{wrongGain, choiceFits, planFits, planCauseUpTo}
 use Rattle.planner.proofs.Answer.{answer-plan, refusal-is}
 use Rattle.planner.proofs.Optimal.{least-same, gains-none, least-mode}
 use Rattle.writer.specs.Written.{fieldOf, writeNumber, writeCauseUpTo, channelWrite, channelWritten, channelWrittenUpTo}
@@ -246,12 +246,14 @@ module _ (h : ℕ) (low : 1 ≤ h) (high : h ≤ 19) (a b c d e f : Float) where
 
   one-written : (p : Plan) (out : List ℕ) (at : ℕ) → writeNumber (channelWrite p (h ∷ []) 0 1 six out at)
       ≡ cond (someTooLarge six) 5 (cond (planFits p (h ∷ []) 0 1 six) (cond (leb (at + totalOf p) (8 * length out)) 0 7) 6)
-  unfolding writeCauseUpTo
-  one-written p out at = write-number p (h ∷ []) 0 1 six out at largestSize ∙ rw one-cause (go (someTooLarge six) _)
+  unfolding writeCauseUpTo planCauseUpTo
+  one-written p out at =
+      write-number p (h ∷ []) 0 1 six out at largestSize ∙ rw one-cause (go (someTooLarge six) (planFits p (h ∷ []) 0 1 six) (leb (at + totalOf p) (8 * length out)))
     where
-      go : (t : Bool) (n : ℕ) → cond (eqb (cond t 5 0) 0) n (cond t 5 0) ≡ cond t 5 n
-      go true n = refl
-      go false n = refl
+      go : (t f l : Bool) → let c : ℕ = cond t 5 0 in let k : ℕ = cond (eqb c 0) (cond f 0 6) c in cond (eqb k 0) (cond l 0 7) k ≡ cond t 5 (cond f (cond l 0 7) 6)
+      go true f l = refl
+      go false true l = refl
+      go false false l = refl
 
 -- ---- the rest compute
 pub points : Points
@@ -260,7 +262,7 @@ unfolding sub mul div le ofInt ofBits isNan bitsN numberOf bitsOf number each-en
     codesFrom wordsRead wordsEnd gainCodes gainsAfter groupWords gainWords binOf binAt gainAt from roundMag roundAway absF valueAt probed bestOf estOne
     bestOne slopeAt estLarge bestLarge smallOf oneCode largeCode taggedCode picked quantisedUpTo sumOver someOver binBits codesBits cheapest leastUpTo
     activeAt activeCount bestGain leastAt leastOf planMode gainsOver planGains planPayload noGains unknownAt beyondAt planOf causeUpTo plannedUpTo rowCause
-    readCause found allowedGain readGaqGains chosenAt payloadOf choiceBits writeCauseUpTo channelWrittenUpTo bytesWith bytesOf splice wrongGain choiceFits planFits vqSearchUpTo
+    readCause found allowedGain readGaqGains chosenAt payloadOf choiceBits planCauseUpTo writeCauseUpTo channelWrittenUpTo bytesWith bytesOf splice wrongGain choiceFits planFits vqSearchUpTo
     each-dec joined
 points = record {
   p1 = p1-answers;

@@ -216,6 +216,7 @@ pub fn print(c: Count) {
         15 => print_count(b"write_aht_channel", c),
         16 => print_count(b"read_aht_channel", c),
         17 => print_count(b"read_three", c),
+        18 => print_count(b"print_pages", c),
         _ => print_count(b"no function", c),
     }
 }

@@ -1,6 +1,7 @@
-// Replays the recorded answers of the calls that plan, write and read a channel, as replay does for the calls below
-// them: channels of up to eight bins (tests/judge/record_channels.rs has what a record is and how it was made).
+// Replays the recorded answers of the calls that plan, write, read and print a channel, as replay does for the calls
+// below them: channels of up to eight bins (tests/judge/record_channels.rs has what a record is and how it was made).
 ghost use Prim.Native.Nat.{_≤_};
+use answers::SizeResult;
 use planner::Plan;
 use planner::Planned;
 use reader::ChannelRead;
@@ -8,6 +9,9 @@ use records::Count;
 use writer::ChannelWrite;
 
 type Record = [u8; 1024];
+
+// Lent for pages: a page and 50 bytes more.
+type Output = [u8; 3300];
 
 // The places of these records beside those of every record: mode, payload, count and gains are the plan's or what was
 // read; the lengths of row, vectors, bytes and the reader's three outputs; what the call is given, and from BYTES_AFTER
@@ -49,6 +53,14 @@ const VALUES: usize = 576;
 const EXACT: usize = 768;
 
 const INDICES: usize = 960;
+
+// Of pages: the length of the output and the first two lines.
+const OUTPUT_LEN: usize = 8;
+
+const LINES: usize = 320;
+
+// What stands in the output before the call.
+const FILLER: u8 = 0x42;
 
 // A length of the record, at most n.
 fn size(b: u8, n: usize) -> usize
@@ -212,6 +224,55 @@ fn replay_read(r: &Record) -> bool {
     same_outputs(r, &values, &exact, &indices) && same_shown(r, answer)
 }
 
+// ---- print_pages
+
+// What has to stand at a place of the output: the two lines of the record, then lines of 64 spaces; behind the pages
+// what was there.
+fn page_byte(r: &Record, at: usize) -> u8 {
+    if records::number64(r, records::VALUE) <= at as u64 {
+        return FILLER;
+    }
+    if at < 130 {
+        return records::byte(r, LINES + at);
+    }
+    if at % 65 == 64 { 10 } else { 32 }
+}
+
+fn same_pages(r: &Record, out: &Output) -> bool {
+    let mut i: usize = 0;
+    while i < 3300 {
+        if out[i] != page_byte(r, i) {
+            return false;
+        }
+        i += 1;
+    }
+    true
+}
+
+fn same_print(r: &Record, answer: SizeResult) -> bool {
+    match answer {
+        SizeResult::Value(n) => records::same_value(r, 0, n as u64),
+        SizeResult::Refused(k) => records::same_value(r, k, 0),
+    }
+}
+
+fn output_len(r: &Record) -> usize
+    ensures { λ n. ⌜ n ≤ 3300 ⌝ }
+{
+    let n = records::number64(r, OUTPUT_LEN) as usize;
+    if n < 3300 { n } else { 3300 }
+}
+
+fn replay_print(r: &Record, plan: Plan, x: [f32; 48]) -> bool {
+    let mut out = [FILLER; 3300];
+    let n = size(r[VECTORS_LEN], 48);
+    let len = output_len(r);
+    let start = records::number64(r, START) as usize;
+    let end = records::number64(r, END) as usize;
+    let answer = pages::print_pages(plan, row(r), start, end, &x[0..n], &mut out[0..len]);
+    same_pages(r, &out) && same_print(r, answer)
+}
+
 // Whether the call of the record gives the record's answer.
 fn right(r: &Record) -> bool {
     let function = r[0];
@@ -219,6 +280,7 @@ fn right(r: &Record) -> bool {
         14 => replay_plan(r, plan(r, vectors(r))),
         15 => replay_write(r, plan_of(r, gains_of(r)), vectors(r)),
         16 => replay_read(r),
+        18 => replay_print(r, plan_of(r, gains_of(r)), vectors(r)),
         _ => false,
     }
 }

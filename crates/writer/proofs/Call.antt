@@ -1,26 +1,22 @@
 -- The field of a choice, one part put behind the other, and the call by its cases. Assumes nothing.
 use Prim.Native.Nat.{ℕ, _+_, _*_, _≤_, _<_}
 use mathlib.Core.Path.{_≡_, refl, sym, ap, _∙_, subst}
-use mathlib.Core.Bool.{Bool, true, false, _&&_, true≢false}
+use mathlib.Core.Bool.{Bool}
 use mathlib.Core.List.{List, _++_}
 use native.Mathlib.Nat.{le-trans, le-of-eq}
 use native.Mathlib.Omega.{arith}
-use borrow.Author.Tests.{eqb-true, ne-eqb, le-leb, lt-leb}
-use lib.Dec.{eqb, leb}
+use borrow.Author.Tests.{ne-eqb, le-leb, lt-leb}
 use lib.ListN.{length, length-append}
 use lib.Ieee.{Float}
 use Rattle.bits.specs.Bits.{bitsN, bitAt, posOf, bytesWith}
 use Rattle.bits.specs.Format.{number}
 use Rattle.bits.specs.declared.BitPos.{BitPos}
-use Rattle.channel.specs.Row.{activeCount}
 use Rattle.channel.specs.Field.{gainWords, field}
 use Rattle.channel.proofs.Rows.{count-most}
 use Rattle.planner.specs.declared.Plan.{Plan}
-use Rattle.planner.specs.Choice.{choiceBits, Choice}
-use Rattle.planner.specs.Planning.{causeOf, totalOf, gainsOf}
-use Rattle.planner.specs.Work.{Within}
-use Rattle.planner.specs.Fit.{choiceFits, planFits}
-use Rattle.planner.proofs.Chosen.{fits-choice}
+use Rattle.planner.specs.Choice.{Choice}
+use Rattle.planner.specs.Planning.{totalOf}
+use Rattle.planner.specs.Fit.{planCause}
 use Rattle.writer.specs.declared.ChannelWrite.{ChannelWrite}
 use Rattle.writer.specs.declared.ChannelWrite.the-variants.{Done}
 use Rattle.writer.specs.Written.{writtenOf, fieldOf, writeCause, writeCauseUpTo, channelWrite, channelWriteUpTo, channelWritten, channelWrittenUpTo}
@@ -71,26 +67,6 @@ module _ (mode : ℕ) (gains row : List ℕ) (x : List Float) (start end : ℕ) 
             let a = length-append second third in
             subst (λ (bs : List Bool). Puts bs p z s v) (sym whole-is) (puts-both f (second ++ third) z v (omega arith) (puts-both g third z v (omega arith) h))
 
--- ---- a plan that fits
-module _ (p : Plan) (row : List ℕ) (start end : ℕ) (x : List Float) where
-  -- has no more gains than there are places,
-  pub count-few : Within row start end x → planFits p row start end x ≡ true → p .count ≤ 256
-  unfolding planFits choiceFits
-  count-few within fits =
-      le-trans (le-of-eq (eqb-true _ _ (second (leb (p .mode) 3) (eqb (p .count) (activeCount (p .mode) row start end)) _ _ fits)))
-      (le-trans (count-most (p .mode) row start end) (within .row-ok .few))
-    where
-      second : (a b c d : Bool) → (a && (b && c)) && d ≡ true → b ≡ true
-      second true true c d h = refl
-      second true false c d h = absurd (true≢false (sym h))
-      second false b c d h = absurd (true≢false (sym h))
-
-  -- and is a choice that has its total as bits
-  pub fitting : planFits p row start end x ≡ true → p .count ≤ length (p .gains)
-      → Choice (p .mode) (gainsOf p) row start end × (choiceBits (p .mode) (gainsOf p) row x start end ≡ totalOf p)
-  unfolding choiceBits
-  fitting fits few = let c = fits-choice p row start end x few fits in (c .0, ap (λ (b : ℕ). 2 + b) (sym (c .1)))
-
 -- ---- the call
 pub not-both : (r : ChannelWrite) (k : ℕ) (q : BitPos) → r ≡ ChannelWrite.Refused k → r ≡ Done q → ⊥
 not-both r k q e f = let z : _≡_ {A = ℕ} 0 1 = cc in omega arith
@@ -103,23 +79,18 @@ module _ (p : Plan) (row : List ℕ) (start end : ℕ) (x : List Float) (out : L
   unfolding channelWriteUpTo channelWrittenUpTo
   refused-with k e n = rw (e, ne-eqb k 0 n) (refl, refl)
 
-  pub call-cause : (k : ℕ) → k ≡ causeOf row start end x → (k ≡ 0 → ⊥) → Answers (ChannelWrite.Refused k) out
+  pub call-cause : (k : ℕ) → k ≡ planCause p row start end x → (k ≡ 0 → ⊥) → Answers (ChannelWrite.Refused k) out
   unfolding writeCauseUpTo
   call-cause k e n = refused-with k (rw (sym e, ne-eqb k 0 n)) n
 
-  module _ (none : causeOf row start end x ≡ 0) where
-    pub call-unfit : planFits p row start end x ≡ false → Answers (ChannelWrite.Refused 6) out
+  module _ (none : planCause p row start end x ≡ 0) where
+    pub call-short : 8 * length out < at + totalOf p → Answers (ChannelWrite.Refused 7) out
     unfolding writeCauseUpTo
-    call-unfit f = refused-with 6 (rw (none, f)) (λ e. omega arith)
+    call-short h = refused-with 7 (rw (none, lt-leb (at + totalOf p) (8 * length out) h)) (λ e. omega arith)
 
-    module _ (fits : planFits p row start end x ≡ true) where
-      pub call-short : 8 * length out < at + totalOf p → Answers (ChannelWrite.Refused 7) out
-      unfolding writeCauseUpTo
-      call-short h = refused-with 7 (rw (none, fits, lt-leb (at + totalOf p) (8 * length out) h)) (λ e. omega arith)
-
-      pub call-good : at + totalOf p ≤ 8 * length out → (q r : BitPos) (e : List ℕ) → bitAt q ≡ at → length (fieldOf p row start end x) ≡ totalOf p → Puts (fieldOf p row start end x) q r out e
-          → Answers (Done r) e
-      unfolding writeCauseUpTo channelWriteUpTo channelWrittenUpTo
-      call-good h q r e i l w =
-          let n : bitAt q + length (fieldOf p row start end x) ≡ at + totalOf p = omega arith in
-          rw (none, fits, le-leb (at + totalOf p) (8 * length out) h) (ap Done (w .place ∙ ap posOf n), w .bytes ∙ ap (λ (k : ℕ). bytesWith out k (fieldOf p row start end x)) i)
+    pub call-good : at + totalOf p ≤ 8 * length out → (q r : BitPos) (e : List ℕ) → bitAt q ≡ at → length (fieldOf p row start end x) ≡ totalOf p → Puts (fieldOf p row start end x) q r out e
+        → Answers (Done r) e
+    unfolding writeCauseUpTo channelWriteUpTo channelWrittenUpTo
+    call-good h q r e i l w =
+        let n : bitAt q + length (fieldOf p row start end x) ≡ at + totalOf p = omega arith in
+        rw (none, le-leb (at + totalOf p) (8 * length out) h) (ap Done (w .place ∙ ap posOf n), w .bytes ∙ ap (λ (k : ℕ). bytesWith out k (fieldOf p row start end x)) i)

@@ -21,20 +21,20 @@ use Rattle.channel.proofs.Most.{field-most}
 use Rattle.planner.specs.Choice.{choiceBits, Choice}
 use Rattle.planner.specs.Planning.{tooLargeAt, causeOf, planned, totalOf, gainsOf}
 use Rattle.planner.specs.Work.{Within}
-use Rattle.planner.specs.Fit.{planFits}
+use Rattle.planner.specs.Fit.{planFits, planCause}
 use Rattle.planner.specs.declared.Plan.{Plan}
-use Rattle.planner.proofs.Answer.{cause-none, refusal-is, answer-fits, answer-choice}
+use Rattle.planner.proofs.Answer.{cause-none, refusal-is, answer-fits, answer-choice, plan-cause-fit, plan-cause-none, few-gains, fitting}
 use Rattle.writer.specs.declared.ChannelWrite.the-variants.{Done}
 use Rattle.writer.specs.Written.{writtenOf, fieldOf, writeCause, writeCauseUpTo, channelWrite, channelWritten, channelWrittenUpTo}
 use Rattle.writer.proofs.Channel.{channel-ok, channel-long}
-use Rattle.writer.proofs.Call.{count-few, fitting, call-good}
+use Rattle.writer.proofs.Call.{call-good}
 
 -- ---- any plan
 module _ (p : Plan) (row : List ℕ) (start end : ℕ) (x : List Float) (places : length (p .gains) ≡ 256) where
   pub fits-long : causeOf row start end x ≡ 0 → planFits p row start end x ≡ true → length (fieldOf p row start end x) ≡ totalOf p
   fits-long none fits =
       let k = cause-none row start end x none in
-      let few = count-few p row start end x (k .0) fits in
+      let few = few-gains p row start end x (k .0) fits in
       let c = fitting p row start end x fits (omega arith) in
       channel-long (p .mode) (gainsOf p) row x start end (k .0) (k .1) (c .0) ∙ c .1
 
@@ -42,7 +42,7 @@ module _ (p : Plan) (row : List ℕ) (start end : ℕ) (x : List Float) (places 
   pub fits-most : causeOf row start end x ≡ 0 → planFits p row start end x ≡ true → totalOf p ≤ 31152
   fits-most none fits =
       let k = cause-none row start end x none in
-      let few = count-few p row start end x (k .0) fits in
+      let few = few-gains p row start end x (k .0) fits in
       let c = fitting p row start end x fits (omega arith) in
       let o = channel-ok (p .mode) (gainsOf p) row x start end (k .0) (k .1) (c .0) in
       le-trans (le-of-eq (sym (fits-long none fits))) (field-most lenient lenient-laws row start end (writtenOf (p .mode) (gainsOf p) row x start end) o (k .0 .row-ok .few))
@@ -50,14 +50,13 @@ module _ (p : Plan) (row : List ℕ) (start end : ℕ) (x : List Float) (places 
   -- where something is written, no cause holds
   pub written-when : (n at : ℕ) → writeCause p row start end x n at ≡ 0 → (causeOf row start end x ≡ 0) × (planFits p row start end x ≡ true) × (at + totalOf p ≤ n)
   unfolding writeCauseUpTo
-  written-when n at = go (eqb (causeOf row start end x) 0) refl (planFits p row start end x) refl (leb (at + totalOf p) n) refl
+  written-when n at = go (planCause p row start end x) (plan-cause-none p row start end x) (eqb (planCause p row start end x) 0) refl (leb (at + totalOf p) n) refl
     where
-      go : (c : Bool) → eqb (causeOf row start end x) 0 ≡ c → (f : Bool) → planFits p row start end x ≡ f → (l : Bool) → leb (at + totalOf p) n ≡ l
-          → cond c (cond f (cond l cause.none cause.outputFull) cause.planMisfit) (causeOf row start end x) ≡ 0 → (causeOf row start end x ≡ 0) × (planFits p row start end x ≡ true) × (at + totalOf p ≤ n)
-      go true e true f true l z = (eqb-true _ _ e, f, leb-true _ _ l)
-      go true e true f false l z = absurd (omega arith)
-      go true e false f b l z = absurd (omega arith)
-      go false e b f d l z = absurd (eqb-false (causeOf row start end x) 0 e z)
+      go : (k : ℕ) → (k ≡ 0 → (causeOf row start end x ≡ 0) × (planFits p row start end x ≡ true)) → (c : Bool) → eqb k 0 ≡ c → (l : Bool) → leb (at + totalOf p) n ≡ l
+          → cond c (cond l cause.none cause.outputFull) k ≡ 0 → (causeOf row start end x ≡ 0) × (planFits p row start end x ≡ true) × (at + totalOf p ≤ n)
+      go k f true e true l z = let g = f (eqb-true k 0 e) in (g .0, g .1, leb-true _ _ l)
+      go k f true e false l z = absurd (omega arith)
+      go k f false e d l z = absurd (eqb-false k 0 e z)
 
   -- A bit outside the field is as it was before, whatever the call answers.
   pub outside-kept : (out : List ℕ) (at : ℕ)
@@ -118,6 +117,6 @@ module _ (row : List ℕ) (start end : ℕ) (x : List Float) (given : planned ro
   is-written out at space =
       let a = at-pos at in
       let w =
-      call-good p row start end x out at no-cause fits space (posOf at) (posOf (at + totalOf p)) (bytesWith out at (fieldOf p row start end x)) a field-long
+      call-good p row start end x out at (sym (plan-cause-fit p row start end x true no-cause (sym fits))) space (posOf at) (posOf (at + totalOf p)) (bytesWith out at (fieldOf p row start end x)) a field-long
       (record { place = rw (a, field-long); bytes = rw a }) in
       (sym (w .0), sym (w .1))

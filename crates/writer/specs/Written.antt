@@ -17,8 +17,8 @@ use Rattle.books.specs.Books.{searchOf}
 use Rattle.quantiser.specs.Quantise.{picked}
 use Rattle.planner.specs.declared.Plan.{Plan}
 use Rattle.levels.specs.Component.{largestSize}
-use Rattle.planner.specs.Planning.{causeUpTo, totalOf, gainsOf}
-use Rattle.planner.specs.Fit.{planFits}
+use Rattle.planner.specs.Planning.{totalOf, gainsOf}
+use Rattle.planner.specs.Fit.{planCauseUpTo}
 use Rattle.writer.specs.declared.ChannelWrite.{ChannelWrite}
 use Rattle.writer.specs.declared.ChannelWrite.the-variants.{Done}
 
@@ -47,9 +47,9 @@ fieldOf p row start end x = field row start end .enc (writtenOf (p .mode) (gains
 -- causes 1 to 7 for the position at of n bits: the lowest that holds, 0 where none does
 unfoldable pub writeCauseUpTo : ℕ → Plan → List ℕ → ℕ → ℕ → List Float → ℕ → ℕ → ℕ
 writeCauseUpTo limit p row start end x n at =
-    cond (eqb (causeUpTo limit row start end x) 0)
-    (cond (planFits p row start end x) (cond (leb (at + totalOf p) n) cause.none cause.outputFull) cause.planMisfit)
-    (causeUpTo limit row start end x)
+    cond (eqb (planCauseUpTo limit p row start end x) 0)
+    (cond (leb (at + totalOf p) n) cause.none cause.outputFull)
+    (planCauseUpTo limit p row start end x)
 
 -- the answer: the position behind the field, or the refusal
 unfoldable pub channelWriteUpTo : ℕ → Plan → List ℕ → ℕ → ℕ → List Float → List ℕ → ℕ → ChannelWrite

@@ -278,12 +278,9 @@ pub fn write_aht_channel(
     ensures { λ r. ⌜ r ≡ channelWrite plan (now (hebap .entry)) start end (now (x .entry)) (now (out .entry)) (bitAt pos) ⌝ }
     ensures { λ r. ⌜ now (out .exit) ≡ channelWritten plan (now (hebap .entry)) start end (now (x .entry)) (now (out .entry)) (bitAt pos) ⌝ }
 {
-    let cause = planner::cause(hebap, start, end, x);
+    let cause = planner::plan_cause(plan, hebap, start, end, x);
     if cause != 0 {
         return ChannelWrite::Refused(cause);
-    }
-    if !planner::plan_fits(plan, hebap, start, end, x) {
-        return ChannelWrite::Refused(answers::PLAN_MISFIT);
     }
     if !pos.has_bits(out.len(), 1, 2 + plan.payload as usize) {
         return ChannelWrite::Refused(answers::OUTPUT_FULL);

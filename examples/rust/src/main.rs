@@ -1,8 +1,8 @@
 //! Plans the channel of docs/FORMAT.md, Desk text, writes its field and prints the plan as the desk does
-//! (examples/tie.plan). Then it reads the field back and compares.
+//! (examples/tie.plan), then the lines of its page that show bins. Then it reads the field back and compares.
 //!
 //!     cargo run --offline --manifest-path examples/rust/Cargo.toml --target-dir target/bindings
-use fathrugg::{plan_aht_channel, read_aht_channel, write_aht_channel, Position};
+use fathrugg::{plan_aht_channel, print_pages, read_aht_channel, write_aht_channel, Position};
 use std::error::Error;
 
 /// hebap 8: six mantissas of 3 bits; hebap 0: nothing is coded.
@@ -20,6 +20,12 @@ fn main() -> Result<(), Box<dyn Error>> {
     let bytes: String = field.iter().map(|b| format!(" {b:02x}")).collect();
     println!("(plan\n(mode {})\n(gains{gains})", plan.gaqmod());
     println!("(payload {})\n(total {})\n(field{bytes})\n)", plan.payload_bits(), plan.total_bits());
+
+    let mut pages = [0; 6500];
+    let length = print_pages(&plan, &ROW, 0, 2, &X, &mut pages)?;
+    for line in std::str::from_utf8(&pages[..length])?.lines().take_while(|l| !l.trim().is_empty()) {
+        println!("{line}");
+    }
 
     let (mut values, mut exact, mut indices) = ([0.0; 12], [0; 12], [0; 2]);
     let mut position = Position::default();

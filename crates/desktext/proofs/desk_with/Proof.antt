@@ -13,7 +13,7 @@ print-front-requires c κs =
     let k = c .before .before .before .before .before .before in
     let t = k .before .before .before in
     let s = t .before .before .before .before .before .before in
-    let f = few-numbers (now (s .args .text)) (t .read-text .result) (t .read-text .ensures .0) _ _ _ (k .before .t2 .given .1) in
+    let f = few-numbers (s .args .view) (now (s .args .text)) (t .read-text .result) (t .read-text .ensures .0) _ _ _ (k .before .t2 .given .1) in
     (s .pre .0, (s .pre .1, (search needs, search needs)))
 
 returns : tie.Need-returns
@@ -22,7 +22,7 @@ returns c =
     let k = p .before .before in
     let t = k .before .before .before in
     let a = t .before .before .before .before .before .before .args in
-    let e = text-none (now (a .text)) (t .read-text .result) (t .read-text .ensures .0) _ (k .before .t .given .1) in
+    let e = text-none (a .view) (now (a .text)) (t .read-text .result) (t .read-text .ensures .0) _ (k .before .t .given .1) in
     let u = p .print-refused .ensures in
     (u .0 ∙ ap length e, u .1 ∙ ap (splice (now (a .out)) 0) e)
 
@@ -33,7 +33,7 @@ returns-2 c =
     let t = k .before .before .before in
     let a = t .before .before .before .before .before .before .args in
     let v = t .read-text .ensures in
-    let e = text-channel (now (a .text)) (t .read-text .result) (v .0) _ _ _ (k .before .t2 .given .1) (now (a .row)) _ (now (a .vectors)) _ (v .1 .0) (v .1 .1) in
+    let e = text-channel (a .view) (now (a .text)) (t .read-text .result) (v .0) _ _ _ (k .before .t2 .given .1) (now (a .row)) _ (now (a .vectors)) _ (v .1 .0) (v .1 .1) in
     let u = p .print-front .ensures in
     (u .0 ∙ ap length e, u .1 ∙ ap (splice (now (a .out)) 0) e)
 

@@ -13,73 +13,67 @@ use Rattle.bits.specs.Bits.{bitAt}
 use Rattle.planner.specs.Choice.{choiceBits, Choice}
 use Rattle.planner.specs.Work.{Within}
 use Rattle.planner.specs.Planning.{causeOf, totalOf, gainsOf}
-use Rattle.planner.specs.Fit.{planFits}
-use Rattle.planner.proofs.Answer.{cause-none}
+use Rattle.planner.specs.Fit.{planFits, planCause}
+use Rattle.planner.proofs.Answer.{cause-none, plan-cause-none, few-gains, fitting}
 use Rattle.writer.specs.Written.{fieldOf}
 use Rattle.writer.proofs.Planned.{fits-long}
-use Rattle.writer.proofs.Call.{count-few, fitting, call-cause, call-unfit, call-short, call-good}
+use Rattle.writer.proofs.Call.{call-cause, call-short, call-good}
 use Rattle.writer.proofs.write_aht_channel.Statement.{statement}
 use Rattle.writer.proofs.write_aht_channel.Tie as tie
 
 -- what each test that was passed says
-none : (c : tie.Else1) → let a = c .before .before .before .before .before .args in causeOf (now (a .hebap)) (a .start) (a .end) (now (a .x)) ≡ 0
-none c = sym (c .before .cause .ensures) ∙ c .if1 .left
+none : (c : tie.Else1) → let a = c .before .before .before .before .before .args in planCause (a .plan) (now (a .hebap)) (a .start) (a .end) (now (a .x)) ≡ 0
+none c = sym (c .before .plan-cause .ensures) ∙ c .if1 .left
 
-fits : (c : tie.Else2) → let a = c .before .before .before .before .before .before .before .args in planFits (a .plan) (now (a .hebap)) (a .start) (a .end) (now (a .x)) ≡ true
-fits c = sym (c .before .plan-fits .ensures) ∙ not-false _ (c .if2 .left)
+fits : (c : tie.Else1) → let a = c .before .before .before .before .before .args in
+    (causeOf (now (a .hebap)) (a .start) (a .end) (now (a .x)) ≡ 0) × (planFits (a .plan) (now (a .hebap)) (a .start) (a .end) (now (a .x)) ≡ true)
+fits c = let a = c .before .before .before .before .before .args in plan-cause-none (a .plan) (now (a .hebap)) (a .start) (a .end) (now (a .x)) (none c)
 
-room : (c : tie.Else3) → let a = c .before .before .before .before .before .before .before .before .before .before .args in bitAt (a .pos) + totalOf (a .plan) ≤ 8 * length (now (a .out))
+room : (c : tie.Else2) → let a = c .before .before .before .before .before .before .before .before .args in bitAt (a .pos) + totalOf (a .plan) ≤ 8 * length (now (a .out))
 room c =
-    let a = c .before .before .before .before .before .before .before .before .before .before .args in
-    let h : bitAt (a .pos) + 1 * totalOf (a .plan) ≤ 8 * length (now (a .out)) = leb-true _ _ (sym (c .before .has-bits .ensures) ∙ not-false _ (c .if3 .left)) in
+    let a = c .before .before .before .before .before .before .before .before .args in
+    let h : bitAt (a .pos) + 1 * totalOf (a .plan) ≤ 8 * length (now (a .out)) = leb-true _ _ (sym (c .before .has-bits .ensures) ∙ not-false _ (c .if2 .left)) in
     omega arith
 
 within : (c : tie.Else1) → let a = c .before .before .before .before .before .args in Within (now (a .hebap)) (a .start) (a .end) (now (a .x))
-within c = let a = c .before .before .before .before .before .args in cause-none (now (a .hebap)) (a .start) (a .end) (now (a .x)) (none c) .0
+within c = let a = c .before .before .before .before .before .args in cause-none (now (a .hebap)) (a .start) (a .end) (now (a .x)) (fits c .0) .0
 
 places : (c : tie.Start) → length (c .args .plan .gains) ≡ 256
 places c = search needs
 
-few : (c : tie.Else2) → let p = c .before .before .before .before .before .before .before .args .plan in p .count ≤ length (p .gains)
+few : (c : tie.Else1) → let p = c .before .before .before .before .before .args .plan in p .count ≤ length (p .gains)
 few c =
-    let s = c .before .before .before .before .before .before .before in
+    let s = c .before .before .before .before .before in
     let a = s .args in
-    le-trans (count-few (a .plan) (now (a .hebap)) (a .start) (a .end) (now (a .x)) (within (c .before .before)) (fits c)) (le-of-eq (sym (places s)))
+    le-trans (few-gains (a .plan) (now (a .hebap)) (a .start) (a .end) (now (a .x)) (within c) (fits c .1)) (le-of-eq (sym (places s)))
 
-choice : (c : tie.Else2)
-    → let a = c .before .before .before .before .before .before .before .args in
+choice : (c : tie.Else1)
+    → let a = c .before .before .before .before .before .args in
     Choice (a .plan .mode) (gainsOf (a .plan)) (now (a .hebap)) (a .start) (a .end)
     × (choiceBits (a .plan .mode) (gainsOf (a .plan)) (now (a .hebap)) (now (a .x)) (a .start) (a .end) ≡ totalOf (a .plan))
 choice c =
-    let a = c .before .before .before .before .before .before .before .args in
-    fitting (a .plan) (now (a .hebap)) (a .start) (a .end) (now (a .x)) (fits c) (few c)
+    let a = c .before .before .before .before .before .args in
+    fitting (a .plan) (now (a .hebap)) (a .start) (a .end) (now (a .x)) (fits c .1) (few c)
 
 -- the field is as long as announced
-long : (c : tie.Else2) → let a = c .before .before .before .before .before .before .before .args in length (fieldOf (a .plan) (now (a .hebap)) (a .start) (a .end) (now (a .x))) ≡ totalOf (a .plan)
+long : (c : tie.Else1) → let a = c .before .before .before .before .before .args in length (fieldOf (a .plan) (now (a .hebap)) (a .start) (a .end) (now (a .x))) ≡ totalOf (a .plan)
 long c =
-    let s = c .before .before .before .before .before .before .before in
+    let s = c .before .before .before .before .before in
     let a = s .args in
-    fits-long (a .plan) (now (a .hebap)) (a .start) (a .end) (now (a .x)) (places s) (none (c .before .before)) (fits c)
+    let f = fits c in
+    fits-long (a .plan) (now (a .hebap)) (a .start) (a .end) (now (a .x)) (places s) (f .0) (f .1)
 
 returns : tie.Need-returns
 returns c =
     let a = c .before .before .before .before .before .args in
-    call-cause (a .plan) (now (a .hebap)) (a .start) (a .end) (now (a .x)) (now (a .out)) (bitAt (a .pos)) _ (c .before .cause .ensures) (c .if1 .taken)
-
-plan-fits-requires : tie.Need-plan-fits-requires
-plan-fits-requires c κs = within c
+    call-cause (a .plan) (now (a .hebap)) (a .start) (a .end) (now (a .x)) (now (a .out)) (bitAt (a .pos)) _ (c .before .plan-cause .ensures) (c .if1 .taken)
 
 returns-2 : tie.Need-returns-2
 returns-2 c =
-    let a = c .before .before .before .before .before .before .before .args in
-    call-unfit (a .plan) (now (a .hebap)) (a .start) (a .end) (now (a .x)) (now (a .out)) (bitAt (a .pos)) (none (c .before .before)) (sym (c .before .plan-fits .ensures) ∙ not-true _ (c .if2 .taken))
-
-returns-3 : tie.Need-returns-3
-returns-3 c =
     let p = c .before .before .before in
-    let a = p .before .before .before .before .before .before .before .args in
-    let h : 8 * length (now (a .out)) < bitAt (a .pos) + 1 * totalOf (a .plan) = leb-false _ _ (sym (c .before .has-bits .ensures) ∙ not-true _ (c .if3 .taken)) in
-    call-short (a .plan) (now (a .hebap)) (a .start) (a .end) (now (a .x)) (now (a .out)) (bitAt (a .pos)) (none (p .before .before)) (fits p) (omega arith)
+    let a = p .before .before .before .before .before .args in
+    let h : 8 * length (now (a .out)) < bitAt (a .pos) + 1 * totalOf (a .plan) = leb-false _ _ (sym (c .before .has-bits .ensures) ∙ not-true _ (c .if2 .taken)) in
+    call-short (a .plan) (now (a .hebap)) (a .start) (a .end) (now (a .x)) (now (a .out)) (bitAt (a .pos)) (none p) (omega arith)
 
 array-share-prefix-gains : tie.Need-array-share-prefix-gains
 array-share-prefix-gains c = few (c .before .before .before .before .before)
@@ -87,31 +81,28 @@ array-share-prefix-gains c = few (c .before .before .before .before .before)
 slice-aggregate-write-choice : tie.Need-slice-aggregate-write-choice
 slice-aggregate-write-choice c =
     let f = c .before .before .before .before .before .before in
-    let p = f .before .before .before .before .before .before .before .args .plan in
+    let p = f .before .before .before .before .before .args .plan in
     sym (length-take-le (p .count) (p .gains) (few f))
 
 write-choice-requires : tie.Need-write-choice-requires
 write-choice-requires c κs =
     let e = c .before .before .before in
     let f = e .before .before .before in
-    let g = f .before .before in
-    let a = g .before .before .before .before .before .args in
-    let k = cause-none (now (a .hebap)) (a .start) (a .end) (now (a .x)) (none g) in
+    let a = f .before .before .before .before .before .args in
     let h = choice f in
-    (k .0, (h .0, le-trans (le-of-eq (ap (λ n. bitAt (a .pos) + n) (long f))) (room e)))
+    (within f, (h .0, le-trans (le-of-eq (ap (λ n. bitAt (a .pos) + n) (long f))) (room e)))
 
-returns-4 : tie.Need-returns-4
-returns-4 c =
+returns-3 : tie.Need-returns-3
+returns-3 c =
     let w = c .before .before in
     let e = w .before .before .before .before in
     let f = e .before .before .before in
-    let g = f .before .before in
-    let a = g .before .before .before .before .before .args in
-    call-good (a .plan) (now (a .hebap)) (a .start) (a .end) (now (a .x)) (now (a .out)) (bitAt (a .pos)) (none g) (fits f) (room e) (a .pos) _ _ refl (long f) (w .write-choice .ensures)
+    let a = f .before .before .before .before .before .args in
+    call-good (a .plan) (now (a .hebap)) (a .start) (a .end) (now (a .x)) (now (a .out)) (bitAt (a .pos)) (none f) (room e) (a .pos) _ _ refl (long f) (w .write-choice .ensures)
 
 pub write-aht-channel-spec : {M : Type 1} → statement M
 write-aht-channel-spec =
     tie.close
-    (tie.spec (λ c κs. search needs) returns plan-fits-requires returns-2 (λ c. search needs) (λ c. search needs)
-    (λ c κs. search needs) returns-3 array-share-prefix-gains slice-aggregate-write-choice write-choice-requires
-    (λ c. search needs) returns-4)
+    (tie.spec (λ c κs. search needs) returns (λ c. search needs) (λ c. search needs)
+    (λ c κs. search needs) returns-2 array-share-prefix-gains slice-aggregate-write-choice write-choice-requires
+    (λ c. search needs) returns-3)

@@ -1,0 +1,4 @@
+pub mod Pages
+pub mod Printing
+pub mod Reading
+pub mod Work
