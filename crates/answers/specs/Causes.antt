@@ -1,5 +1,7 @@
 -- Why a call refuses, by name: the numbers of docs/FORMAT.md, Causes and refusals.
 use Prim.Native.Nat.{ℕ}
+use mathlib.Core.Bool.{cond}
+use lib.Dec.{eqb}
 
 -- no cause holds
 abbrev pub none : ℕ
@@ -56,3 +58,7 @@ outOfRange = 12
 -- the desk's text malformed
 abbrev pub text : ℕ
 text = 13
+
+-- the first of two causes: c, or d where there is no c
+abbrev pub firstOf : ℕ → ℕ → ℕ
+firstOf c d = cond (eqb c none) d c

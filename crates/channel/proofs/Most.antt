@@ -115,7 +115,7 @@ module _ (F : Coder) (laws : CoderLaws F) where
       few l u (inl e) (Code.Large n) = rw e (omega arith)
       few l u (inr k) (Code.Large n) = either-most (eqb g 1) (mantBits h) (smallBits (mantBits h) g + largeBits (mantBits h) g) 20 (omega arith) (both (eqb g 2) (mant-active h (a .0) k))
 
-  item-most : (mode h g : ℕ) (x : Item) → item F (binOf mode h g) .Ok x → length (item F (binOf mode h g) .enc x) ≤ 120
+  pub item-most : (mode h g : ℕ) (x : Item) → item F (binOf mode h g) .Ok x → length (item F (binOf mode h g) .enc x) ≤ 120
   unfolding number
   item-most mode h g x =
       by-bin (λ b. item F b .Ok x → length (item F b .enc x) ≤ 120) mode h g (λ o. omega arith)

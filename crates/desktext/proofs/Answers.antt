@@ -18,16 +18,17 @@ use Rattle.writer.specs.declared.ChannelWrite.the-variants.{Done}
 use Rattle.bits.proofs.Laws.{bitsOf-append, length-bitsOf, length-with, splice-read}
 use Rattle.planner.specs.Fit.{planCause}
 use Rattle.planner.specs.Planning.{planned, totalOf}
-use Rattle.planner.proofs.Answer.{refusal-is, cause-most, plan-cause-fit, few-gains as gains-few}
+use Rattle.planner.proofs.Answer.{refusal-is, cause-most, plan-cause-fit, fits-few}
 use Rattle.planner.specs.declared.Plan.{Plan}
 use Rattle.planner.specs.declared.Planned.{Planned}
 use Rattle.writer.specs.Written.{fieldOf, channelWrite, channelWritten}
 use Rattle.writer.proofs.Planned.{within, fits, field-long as long-field, few-bits as bits-few, is-written as field-written}
 use Rattle.plantext.specs.PlanText.{planText, refusedText}
 use Rattle.plantext.proofs.Printing.{plan-text-fits, refused-text-fits, plan-no-refusal, digit-not-13, refused-sample}
-use Rattle.pages.specs.Pages.{pageCount, pagesLength, pagesText}
+use Rattle.pages.specs.Pages.{pagesLength, pagesText}
 use Rattle.pages.specs.Printing.{pagesCause, pagesPrint, pagesPrinted}
-use Rattle.pages.proofs.Call.{pages-long}
+use Rattle.pages.proofs.Call.{value-not-refused, pages-long}
+use Rattle.pages.proofs.Printed.{pages-most}
 use Rattle.desktext.specs.Printed.{componentOf}
 use Rattle.desktext.specs.Channel.{TextChannel, channel, none, channelIn, textAnswer, rowAfter, vectorsAfter}
 use Rattle.desktext.specs.Desk.{fieldBytes, viewOf, planAnswer, channelAnswer, deskAnswer}
@@ -83,7 +84,7 @@ module _ (row : List ℕ) (start end : ℕ) (x : List Float) (r : Planned) (is :
     planned-given = rw (sym is) given
 
     pub few-gains : p .count ≤ 256
-    few-gains = rw is (gains-few (planned row start end x .plan) row start end x (within row start end x planned-given) (fits row start end x planned-given))
+    few-gains = rw is (fits-few (planned row start end x .plan) row start end x (within row start end x planned-given) (fits row start end x planned-given))
 
     -- ---- its field
     field-long : length (fieldOf p row start end x) ≡ totalOf p
@@ -132,20 +133,16 @@ module _ (row : List ℕ) (start end : ℕ) (x : List Float) (r : Planned) (is :
     no-cause : planCause p row start end x ≡ 0
     no-cause = rw is (sym (plan-cause-fit (planned row start end x .plan) row start end x true (sym (refusal-is row start end x) ∙ planned-given) (sym (fits row start end x planned-given))))
 
-    pub pages-most : pagesLength start end ≤ 6500
-    unfolding pageCount
-    pages-most = let f = within row start end x planned-given .row-ok .few in omega arith
+    pub few-pages : pagesLength start end ≤ 6500
+    few-pages = pages-most p row start end x no-cause
 
     module _ (out : List ℕ) (long : 32768 ≤ length out) where
       is-printed : (pagesPrint p row start end x out ≡ SizeResult.Value (pagesLength start end)) × (pagesPrinted p row start end x out ≡ splice out 0 (pagesText p row start end x))
       unfolding pagesPrint pagesPrinted pagesCause
-      is-printed = let m = pages-most in rw (no-cause, le-leb (pagesLength start end) (length out) (omega arith)) (refl, refl)
+      is-printed = let m = few-pages in rw (no-cause, le-leb (pagesLength start end) (length out) (omega arith)) (refl, refl)
 
       pub pages-never-refused : (w : SizeResult) (k : ℕ) → w ≡ pagesPrint p row start end x out → w ≡ SizeResult.Refused k → ⊥
-      pages-never-refused w k e f = no-print (pagesLength start end) k (sym (is-printed .0) ∙ sym e ∙ f)
-        where
-          no-print : (n k : ℕ) → SizeResult.Value n ≡ SizeResult.Refused k → ⊥
-          no-print n k e = let z : _≡_ {A = ℕ} 0 1 = cc in omega arith
+      pages-never-refused w k e f = value-not-refused (pagesLength start end) k (sym (is-printed .0) ∙ sym e ∙ f)
 
       pub pages-given : (w : SizeResult) (n : ℕ) (after : List ℕ) → w ≡ pagesPrint p row start end x out → w ≡ SizeResult.Value n → after ≡ pagesPrinted p row start end x out
           → (n ≡ length (planAnswer OnPages row start end x)) × (after ≡ splice out 0 (planAnswer OnPages row start end x))
@@ -191,7 +188,7 @@ module _ (row : List ℕ) (start end : ℕ) (x : List Float) where
       let h = plan-text-fits p (fieldBytes bs) in
       omega (arith, length-take (p .count) (p .gains))
   view-fits OnPages g =
-      let m = pages-most row start end x (planned row start end x) refl g in
+      let m = few-pages row start end x (planned row start end x) refl g in
       let l = pages-long (planned row start end x .plan) row start end x in
       omega arith
 

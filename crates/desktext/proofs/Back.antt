@@ -8,7 +8,8 @@ use native.Mathlib.Omega.{arith}
 use lib.ListN.{length, length-append}
 use lib.Dec.{leb, eqb}
 use borrow.Author.Tests.{le-leb, eq-eqb, ne-eqb, leb-true, leb-false}
-use Rattle.desktext.specs.Spelling.{largest, lastNumber, closeToken, AllDigits, decimalValue, Digits, Word, plain, minus, channelName, binsName, rowName, vectorName, Spelt, end, endLine, close, closeLine, space, line, TextOf, text, nested}
+use Rattle.plantext.specs.PlanText.{decimalValue}
+use Rattle.desktext.specs.Spelling.{largest, lastNumber, closeToken, AllDigits, Digits, Word, plain, minus, channelName, binsName, rowName, vectorName, Spelt, end, endLine, close, closeLine, space, line, TextOf, text, nested}
 use Rattle.desktext.specs.Text.{Seen, seen, unseen, orElse, leads, named, isDigit, digits, natural, above, numberSeen, itemHead, bracket, closing, got, after, ending, step, rest, tokens}
 use Rattle.desktext.proofs.Laws.{no-true, number-plain, number-less, bracket-other}
 use Rattle.desktext.proofs.Steps.{rest-close, rest-number, rest-form}

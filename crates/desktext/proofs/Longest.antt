@@ -10,7 +10,8 @@ use native.Mathlib.Nat.{le-trans, min-le-left, pow-suc, pow-le-pow-right}
 use lib.ListN.{length, take, drop, length-append, length-map, length-take}
 use lib.Dec.{leb}
 use borrow.Author.Tests.{leb-true, leb-false}
-use Rattle.desktext.specs.Spelling.{largest, closeToken, AllDigits, decimalValue, Digits, Word, plain, minus, channelName, binsName, rowName, vectorName, Spelt, end, endLine, close, closeLine, space, line, TextOf, text}
+use Rattle.plantext.specs.PlanText.{decimalValue}
+use Rattle.desktext.specs.Spelling.{largest, closeToken, AllDigits, Digits, Word, plain, minus, channelName, binsName, rowName, vectorName, Spelt, end, endLine, close, closeLine, space, line, TextOf, text}
 use Rattle.desktext.specs.Printed.{vectorForms, channelTokens, IsText}
 use Rattle.desktext.specs.Channel.{TextChannel, channel, none, channelIn}
 use Rattle.desktext.specs.Work.{longest}

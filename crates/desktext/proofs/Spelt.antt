@@ -9,7 +9,8 @@ use lib.ListN.{length, drop}
 use lib.Arith.{lt-of-le-ne}
 use lib.Dec.{leb, eqb}
 use borrow.Author.Tests.{eqb-true, eqb-false, leb-true}
-use Rattle.desktext.specs.Spelling.{largest, lastNumber, closeToken, channelToken, binsToken, rowToken, vectorToken, channelWord, binsWord, rowWord, vectorWord, AllDigits, decimalValue, Digits, Word, plain, minus, channelName, binsName, rowName, vectorName, Spelt, end, endLine, close, closeLine, space, line, TextOf, text}
+use Rattle.plantext.specs.PlanText.{decimalValue}
+use Rattle.desktext.specs.Spelling.{largest, lastNumber, closeToken, channelToken, binsToken, rowToken, vectorToken, channelWord, binsWord, rowWord, vectorWord, AllDigits, Digits, Word, plain, minus, channelName, binsName, rowName, vectorName, Spelt, end, endLine, close, closeLine, space, line, TextOf, text}
 use Rattle.desktext.specs.Text.{Seen, seen, unseen, orElse, leads, named, digits, natural, above, below, numberSeen, itemHead, bracket, closing, ReadText, got, malformed, after, ending, onItem, onClose, step, rest, onName, tokens}
 use Rattle.desktext.proofs.Laws.{no-true}
 

@@ -5,6 +5,7 @@ use mathlib.Core.List.{List, [], _∷_, _++_}
 use mathlib.Core.Logic.{_⊎_}
 use mathlib.Core.Bool.{Bool, true, false, cond}
 use lib.Dec.{leb, eqb}
+use Rattle.plantext.specs.PlanText.{decimalValue}
 
 -- ---- tokens
 -- Numbers lie in -16777216 to 16777216. A token t up to 33554432 is the number t - 16777216.
@@ -47,11 +48,6 @@ vectorWord = 40 ∷ 118 ∷ 101 ∷ 99 ∷ 116 ∷ 111 ∷ 114 ∷ []
 unfoldable pub AllDigits : List ℕ → Type 0
 AllDigits [] = Unit {0}
 AllDigits (d ∷ ds) = (48 ≤ d) × (d ≤ 57) × AllDigits ds
-
--- the number whose digits are those of v and then ds
-unfoldable pub decimalValue : ℕ → List ℕ → ℕ
-decimalValue v [] = v
-decimalValue v (d ∷ ds) = decimalValue (v * 10 + (d - 48)) ds
 
 -- the digits of a number m: no plus, no leading zero, at most 16777216
 unfoldable pub Digits : ℕ → List ℕ → Type 0

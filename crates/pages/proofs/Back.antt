@@ -2,55 +2,106 @@
 use Prim.Native.Nat.{ℕ, zero, suc, _+_, _-_, _*_, _/_, _%_, _^_, _≤_, _<_}
 use mathlib.Core.Path.{_≡_, refl, sym, ap, _∙_}
 use mathlib.Core.Bool.{Bool, true, false, cond, _&&_, and-false, true≢false}
+use mathlib.Core.Logic.{_↔_}
 use mathlib.Core.List.{List, [], _∷_, _++_}
 use native.Mathlib.Omega.{arith}
 use native.Mathlib.Nat.{le-of-eq, pow-suc}
-use borrow.Author.Tests.{lt-leb, ne-eqb, eqb-true}
+use borrow.Author.Tests.{lt-leb, ne-eqb, eqb-true, eqb-false}
 use lib.Dec.{leb, eqb}
-use lib.ListN.{length, getD, take, drop}
-use lib.Seq.{take-at, take-all, drop-append-add}
-use Rattle.plantext.specs.PlanText.{decimal}
+use lib.ListN.{length, getD, take, drop, List·getD-append}
+use lib.Seq.{take-at, take-all, drop-append-add, getD-drop}
+use Rattle.plantext.specs.PlanText.{decimal, decimalValue}
 use Rattle.pages.specs.Pages.{spaces, aligned, spread, gainText, cellText}
-use Rattle.pages.specs.Reading.{numberFrom, numberIn, gainIn, cellIn, blank}
+use Rattle.pages.specs.Reading.{numberIn, gkIn, cellIn, blank}
 use Rattle.pages.specs.declared.Cell.{Cell}
 use Rattle.pages.proofs.Cells.{aligned-long, gain-long}
 
+-- ---- characters from m on
+abbrev pub AtLeast : ℕ → List ℕ → Type 0
+AtLeast m [] = Unit {0}
+AtLeast m (c ∷ s) = (m ≤ c) × AtLeast m s
+
+least-append : (m : ℕ) (a b : List ℕ) → AtLeast m a → AtLeast m b → AtLeast m (a ++ b)
+least-append m [] b p q = q
+least-append m (c ∷ a) b p q = (p .0, least-append m a b (p .1) q)
+
+least-down : (m n : ℕ) (s : List ℕ) → n ≤ m → AtLeast m s → AtLeast n s
+least-down m n [] h p = tt
+least-down m n (c ∷ s) h p = let l = p .0 in (omega arith, least-down m n s h (p .1))
+
+-- digits are
+digits-least : (places n : ℕ) → AtLeast 48 (decimal places n)
+unfolding decimal
+digits-least zero n = tt
+digits-least (suc places) n = go (leb 10 n) (digits-least places (n / 10))
+  where
+    go : (t : Bool) → AtLeast 48 (decimal places (n / 10)) → AtLeast 48 (cond t (decimal places (n / 10) ++ ((48 + n % 10) ∷ [])) ((48 + n) ∷ []))
+    go true v = least-append 48 (decimal places (n / 10)) _ v (omega arith, tt)
+    go false v = (omega arith, tt)
+
 -- ---- numbers
-number-spaces : (n v : ℕ) (s : List ℕ) → numberFrom v (spaces n ++ s) ≡ numberFrom v s
-unfolding numberFrom
-number-spaces zero v s = refl
-number-spaces (suc n) v s = number-spaces n v s
+value-last : (v d : ℕ) (s : List ℕ) → decimalValue v (s ++ ((48 + d) ∷ [])) ≡ decimalValue v s * 10 + d
+unfolding decimalValue
+value-last v d [] = omega arith
+value-last v d (c ∷ s) = value-last (v * 10 + (c - 48)) d s
 
-number-last : (v d : ℕ) (s : List ℕ) → numberFrom v (s ++ ((48 + d) ∷ [])) ≡ numberFrom v s * 10 + d
-unfolding numberFrom
-number-last v d [] = rw (ne-eqb (48 + d) 32 (λ e. omega arith)) (omega arith)
-number-last v d (c ∷ s) = number-last (cond (eqb c 32) v (v * 10 + (c - 48))) d s
-
-decimal-back : (places n : ℕ) → n < 10 ^ places → numberIn (decimal places n) ≡ n
-unfolding decimal numberFrom
+decimal-back : (places n : ℕ) → n < 10 ^ places → decimalValue 0 (decimal places n) ≡ n
+unfolding decimal decimalValue
 decimal-back zero n h = omega arith
 decimal-back (suc places) n h = let p = pow-suc 10 places in go (leb 10 n) (decimal-back places (n / 10) (omega arith))
   where
-    go : (t : Bool) → numberIn (decimal places (n / 10)) ≡ n / 10 → numberIn (cond t (decimal places (n / 10) ++ ((48 + n % 10) ∷ [])) ((48 + n) ∷ [])) ≡ n
-    go true e = number-last 0 (n % 10) (decimal places (n / 10)) ∙ rw e (omega arith)
-    go false e = let z : 0 * 10 + n ≡ n = omega arith in number-last 0 n [] ∙ z
+    go : (t : Bool) → decimalValue 0 (decimal places (n / 10)) ≡ n / 10 → decimalValue 0 (cond t (decimal places (n / 10) ++ ((48 + n % 10) ∷ [])) ((48 + n) ∷ [])) ≡ n
+    go true e = value-last 0 (n % 10) (decimal places (n / 10)) ∙ rw e (omega arith)
+    go false e = let z : 0 * 10 + n ≡ n = omega arith in value-last 0 n [] ∙ z
+
+number-spaces : (n : ℕ) (s : List ℕ) → numberIn (spaces n ++ s) ≡ numberIn s
+unfolding numberIn
+number-spaces zero s = refl
+number-spaces (suc n) s = number-spaces n s
+
+number-digits : (s : List ℕ) → AtLeast 48 s → numberIn s ≡ decimalValue 0 s
+unfolding numberIn decimalValue
+number-digits [] p = refl
+number-digits (c ∷ s) p = let l = p .0 in rw (ne-eqb c 32 (λ e. omega arith))
 
 aligned-back : (places n : ℕ) → n < 10 ^ places → numberIn (aligned places n) ≡ n
 unfolding aligned
-aligned-back places n h = number-spaces (places - length (decimal places n)) 0 (decimal places n) ∙ decimal-back places n h
+aligned-back places n h =
+    number-spaces (places - length (decimal places n)) (decimal places n) ∙ number-digits (decimal places n) (digits-least places n) ∙ decimal-back places n h
 
 -- ---- a cell
 -- its four parts with the spaces between, cut at their columns
 cut-at : (n m : ℕ) (a s : List ℕ) → length a ≡ n → drop (n + m) (a ++ s) ≡ drop m s
 cut-at n m a s e = rw (← e) (drop-append-add a s m)
 
-gain-back : (g : ℕ) → g < 10 → gainIn (gainText g) ≡ g
-unfolding gainText aligned decimal numberFrom
+gain-back : (g : ℕ) → g < 10 → gkIn (gainText g) ≡ g
+unfolding gainText aligned decimal numberIn decimalValue
 gain-back g h = go (eqb g 0) refl
   where
-    go : (t : Bool) → eqb g 0 ≡ t → gainIn (cond t (45 ∷ []) (aligned 1 g)) ≡ g
+    go : (t : Bool) → eqb g 0 ≡ t → gkIn (cond t (45 ∷ []) (aligned 1 g)) ≡ g
     go true e = sym (eqb-true g 0 e)
     go false e = rw (lt-leb 10 g h, ne-eqb (48 + g) 45 (λ e. omega arith), ne-eqb (48 + g) 32 (λ e. omega arith)) (omega arith)
+
+-- the character of its gain: a dash for 0 alone
+gain-dash : (g : ℕ) → g < 10 → (getD (gainText g) 0 0 ≡ 45) ↔ (g ≡ 0)
+unfolding gainText aligned decimal
+gain-dash g h = go (eqb g 0) refl
+  where
+    go : (t : Bool) → eqb g 0 ≡ t → (getD (cond t (45 ∷ []) (aligned 1 g)) 0 0 ≡ 45) ↔ (g ≡ 0)
+    go true e = (λ q. eqb-true g 0 e, λ q. refl)
+    go false e = rw (lt-leb 10 g h) (λ q. omega arith, λ q. absurd (eqb-false g 0 e q))
+
+pub cell-dash : (c : Cell) → c .gk < 10 → (getD (cellText c) 7 0 ≡ 45) ↔ (c .gk ≡ 0)
+unfolding cellText spread
+cell-dash c h =
+    let a = aligned 3 (c .bin) in
+    let b = aligned 2 (c .hebap) in
+    let g = gainText (c .gk) in
+    let s = a ++ (32 ∷ (b ++ (32 ∷ (g ++ (32 ∷ aligned 3 (c .bits)))))) in
+    let lg = gain-long (c .gk) in
+    let d : drop 7 s ≡ g ++ (32 ∷ aligned 3 (c .bits)) = cut-at 3 4 a _ (aligned-long 3 (c .bin)) ∙ cut-at 2 1 b _ (aligned-long 2 (c .hebap)) in
+    let e : getD s 7 0 ≡ getD g 0 0 = sym (getD-drop 7 s 0 0) ∙ ap (λ (t : List ℕ). getD t 0 0) d ∙ List·getD-append g _ 0 0 (omega arith) in
+    rw e (gain-dash (c .gk) h)
 
 -- Its parts are read back.
 pub cell-back : (c : Cell) → c .bin < 1000 → c .hebap < 100 → c .gk < 10 → c .bits < 1000 → cellIn (cellText c) ≡ c
@@ -70,7 +121,7 @@ cell-back c hb hh hg hn =
     let d₉ : drop 9 s ≡ d = cut-at 3 6 a _ la ∙ cut-at 2 3 b _ lb ∙ cut-at 1 1 g _ lg in
     let e₁ : numberIn (take 3 s) ≡ c .bin = ap numberIn (take-at a _ 3 la) ∙ aligned-back 3 (c .bin) hb in
     let e₂ : numberIn (take 2 (drop 4 s)) ≡ c .hebap = ap (λ (t : List ℕ). numberIn (take 2 t)) d₄ ∙ ap numberIn (take-at b _ 2 lb) ∙ aligned-back 2 (c .hebap) hh in
-    let e₃ : gainIn (take 1 (drop 7 s)) ≡ c .gk = ap (λ (t : List ℕ). gainIn (take 1 t)) d₇ ∙ ap gainIn (take-at g _ 1 lg) ∙ gain-back (c .gk) hg in
+    let e₃ : gkIn (take 1 (drop 7 s)) ≡ c .gk = ap (λ (t : List ℕ). gkIn (take 1 t)) d₇ ∙ ap gkIn (take-at g _ 1 lg) ∙ gain-back (c .gk) hg in
     let e₄ : numberIn (take 3 (drop 9 s)) ≡ c .bits = ap (λ (t : List ℕ). numberIn (take 3 t)) d₉ ∙ ap numberIn (take-all 3 d (le-of-eq ld)) ∙ aligned-back 3 (c .bits) hn in
     rw (e₁, e₂, e₃, e₄)
 
@@ -109,31 +160,18 @@ pub spaces-blank : blank (spaces 12) ≡ true
 unfolding blank
 spaces-blank = refl
 
--- ---- none of its characters is a line end: all are from the space on
+-- ---- its characters are from the space on, so none is a line end
 abbrev pub Visible : List ℕ → Type 0
-Visible [] = Unit {0}
-Visible (c ∷ s) = (32 ≤ c) × Visible s
-
-visible-append : (a b : List ℕ) → Visible a → Visible b → Visible (a ++ b)
-visible-append [] b p q = q
-visible-append (c ∷ a) b p q = (p .0, visible-append a b (p .1) q)
+Visible = AtLeast 32
 
 pub visible-spaces : (n : ℕ) → Visible (spaces n)
 visible-spaces zero = tt
 visible-spaces (suc n) = (omega arith, visible-spaces n)
 
-visible-decimal : (places n : ℕ) → Visible (decimal places n)
-unfolding decimal
-visible-decimal zero n = tt
-visible-decimal (suc places) n = go (leb 10 n) (visible-decimal places (n / 10))
-  where
-    go : (t : Bool) → Visible (decimal places (n / 10)) → Visible (cond t (decimal places (n / 10) ++ ((48 + n % 10) ∷ [])) ((48 + n) ∷ []))
-    go true v = visible-append (decimal places (n / 10)) _ v (omega arith, tt)
-    go false v = (omega arith, tt)
-
 visible-aligned : (places n : ℕ) → Visible (aligned places n)
 unfolding aligned
-visible-aligned places n = visible-append (spaces (places - length (decimal places n))) _ (visible-spaces (places - length (decimal places n))) (visible-decimal places n)
+visible-aligned places n =
+    least-append 32 (spaces (places - length (decimal places n))) _ (visible-spaces (places - length (decimal places n))) (least-down 48 32 (decimal places n) (omega arith) (digits-least places n))
 
 visible-gain : (g : ℕ) → Visible (gainText g)
 unfolding gainText
@@ -146,8 +184,8 @@ visible-gain g = go (eqb g 0)
 pub cell-visible : (c : Cell) → Visible (cellText c)
 unfolding cellText spread
 cell-visible c =
-    visible-append (aligned 3 (c .bin)) _ (visible-aligned 3 (c .bin))
-    (omega arith, visible-append (aligned 2 (c .hebap)) _ (visible-aligned 2 (c .hebap)) (omega arith, visible-append (gainText (c .gk)) _ (visible-gain (c .gk)) (omega arith, visible-aligned 3 (c .bits))))
+    least-append 32 (aligned 3 (c .bin)) _ (visible-aligned 3 (c .bin))
+    (omega arith, least-append 32 (aligned 2 (c .hebap)) _ (visible-aligned 2 (c .hebap)) (omega arith, least-append 32 (gainText (c .gk)) _ (visible-gain (c .gk)) (omega arith, visible-aligned 3 (c .bits))))
 
 pub visible-at : (s : List ℕ) (i : ℕ) → Visible s → i < length s → 32 ≤ getD s i 0
 visible-at [] i v h = absurd (omega arith)

@@ -10,8 +10,7 @@ use lib.ListN.{length, getD, List·getD-append, getD-replicate}
 use lib.Seq.{getD-drop, getD-append-add}
 use Rattle.channel.specs.Bins.{from}
 use Rattle.channel.specs.Shown.{joined}
-use Rattle.pages.specs.Pages.{spaces, placeText, lineText, linesText}
-use Rattle.pages.specs.Reading.{placeAt}
+use Rattle.pages.specs.Pages.{spaces, placeText, lineText, linesText, placeAt}
 use Rattle.pages.proofs.Pieces.{pieces-length, piece-drop}
 use Rattle.pages.proofs.Lines.{lineRest, column, column-long, place-long, place-blank, place-cell, lineAt, lineAt-long, line-is}
 use Rattle.pages.proofs.Back.{Visible, visible-spaces, visible-at}

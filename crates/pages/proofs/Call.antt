@@ -17,6 +17,9 @@ use Rattle.pages.specs.Work.{blankLines, withCells}
 use Rattle.pages.proofs.Cells.{cell-long}
 use Rattle.pages.proofs.Lines.{lines-long, cells-put}
 
+pub value-not-refused : (n k : ℕ) → SizeResult.Value n ≡ SizeResult.Refused k → ⊥
+value-not-refused n k e = let z : _≡_ {A = ℕ} 0 1 = cc in omega arith
+
 -- there is a place for every bin
 pub places-enough : (start end : ℕ) → end - start ≤ 4 * (50 * pageCount start end)
 unfolding pageCount

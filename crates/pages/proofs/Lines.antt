@@ -13,8 +13,8 @@ use Rattle.bits.specs.Bits.{splice}
 use Rattle.bits.proofs.Laws.{splice-at, length-splice}
 use Rattle.channel.specs.Bins.{from}
 use Rattle.channel.specs.Shown.{joined}
-use Rattle.pages.specs.Pages.{spaces, filled, spread, placeText, lineText, linesText}
-use Rattle.pages.specs.Reading.{placeAt, atPlace}
+use Rattle.pages.specs.Pages.{spaces, filled, spread, placeText, lineText, linesText, placeAt}
+use Rattle.pages.specs.Reading.{atPlace}
 use Rattle.pages.specs.Work.{blankLines, withCells}
 use Rattle.pages.proofs.Pieces.{same-pieces, splice-middle, pieces-length, piece-drop, piece-put}
 

@@ -1,6 +1,6 @@
 -- A plan on pages: lines of 64 characters, four bins to a line, 50 lines to a page. docs/FORMAT.md, Pages.
 -- Text is its bytes: 10 is a line end, 32 a space, 45 a dash.
-use Prim.Native.Nat.{ℕ, _+_, _-_, _*_, _/_}
+use Prim.Native.Nat.{ℕ, _+_, _-_, _*_, _/_, _%_}
 use mathlib.Core.Bool.{cond}
 use mathlib.Core.List.{List, [], _∷_, _++_}
 use lib.Dec.{eqb, ltb}
@@ -64,6 +64,10 @@ placeText cell end k = cond (ltb k end) (cell k) (spaces 12)
 -- the line of the bins k to k + 3
 unfoldable pub lineText : (ℕ → List ℕ) → ℕ → ℕ → List ℕ
 lineText cell end k = filled 64 (spread (from (placeText cell end) k 4)) ++ (10 ∷ [])
+
+-- the byte at which the bin start + i begins: 65 bytes a line, 13 columns a place
+unfoldable pub placeAt : ℕ → ℕ
+placeAt i = 65 * (i / 4) + 13 * (i % 4)
 
 -- so many lines, from that of the bin start on
 unfoldable pub linesText : (ℕ → List ℕ) → ℕ → ℕ → ℕ → List ℕ

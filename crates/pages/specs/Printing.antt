@@ -15,9 +15,7 @@ use Rattle.pages.specs.Pages.{pagesLength, pagesText}
 -- causes 1 to 6 as the writer's, then 7 for an output of n bytes: the lowest that holds, 0 where none does
 unfoldable pub pagesCause : Plan → List ℕ → ℕ → ℕ → List Float → ℕ → ℕ
 pagesCause p row start end x n =
-    cond (eqb (planCause p row start end x) 0)
-    (cond (leb (pagesLength start end) n) cause.none cause.outputFull)
-    (planCause p row start end x)
+    cause.firstOf (planCause p row start end x) (cond (leb (pagesLength start end) n) cause.none cause.outputFull)
 
 -- the answer: how many bytes the pages have, or the refusal
 unfoldable pub pagesPrint : Plan → List ℕ → ℕ → ℕ → List Float → List ℕ → SizeResult

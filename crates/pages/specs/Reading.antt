@@ -1,36 +1,32 @@
 -- Pages read back, for the theorems: no call reads them.
-use Prim.Native.Nat.{ℕ, zero, suc, _+_, _-_, _*_, _/_, _%_}
+use Prim.Native.Nat.{ℕ, zero, suc}
 use mathlib.Core.Bool.{Bool, true, cond, _&&_}
 use mathlib.Core.List.{List, [], _∷_}
 use lib.Dec.{eqb}
 use lib.ListN.{getD, take, drop}
+use Rattle.plantext.specs.PlanText.{decimalValue}
 use Rattle.pages.specs.declared.Cell.{Cell}
+use Rattle.pages.specs.Pages.{placeAt}
 
--- the number whose digits are those of v and then those of the characters; spaces are passed over
-unfoldable pub numberFrom : ℕ → List ℕ → ℕ
-numberFrom v [] = v
-numberFrom v (c ∷ s) = numberFrom (cond (eqb c 32) v (v * 10 + (c - 48))) s
-
-abbrev pub numberIn : List ℕ → ℕ
-numberIn s = numberFrom 0 s
+-- the number that stands behind spaces, to the last character
+unfoldable pub numberIn : List ℕ → ℕ
+numberIn [] = 0
+numberIn (c ∷ s) = cond (eqb c 32) (numberIn s) (decimalValue 0 (c ∷ s))
 
 -- Gk, and 0 for a dash
-abbrev pub gainIn : List ℕ → ℕ
-gainIn s = cond (eqb (getD s 0 0) 45) 0 (numberIn s)
+abbrev pub gkIn : List ℕ → ℕ
+gkIn s = cond (eqb (getD s 0 0) 45) 0 (numberIn s)
 
 -- the four parts of a cell, by their columns
 unfoldable pub cellIn : List ℕ → Cell
 cellIn s = record {
   bin = numberIn (take 3 s);
   hebap = numberIn (take 2 (drop 4 s));
-  gk = gainIn (take 1 (drop 7 s));
+  gk = gkIn (take 1 (drop 7 s));
   bits = numberIn (take 3 (drop 9 s));
 }
 
--- the place i of the pages: four to a line, 13 columns each
-unfoldable pub placeAt : ℕ → ℕ
-placeAt i = 65 * (i / 4) + 13 * (i % 4)
-
+-- the twelve characters of the place i
 abbrev pub atPlace : List ℕ → ℕ → List ℕ
 atPlace s i = take 12 (drop (placeAt i) s)
 

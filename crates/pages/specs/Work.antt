@@ -6,8 +6,7 @@ use lib.Dec.{leb}
 use Rattle.bits.specs.Bits.{splice}
 use Rattle.channel.specs.Bins.{from}
 use Rattle.channel.specs.Shown.{joined}
-use Rattle.pages.specs.Pages.{spaces}
-use Rattle.pages.specs.Reading.{placeAt}
+use Rattle.pages.specs.Pages.{spaces, placeAt}
 
 -- n lines without bins
 unfoldable pub blankLines : ℕ → List ℕ

@@ -6,9 +6,8 @@ ghost use lib.ListN.{length};
 ghost use Rattle.bits.specs.Bits.{splice};
 ghost use Rattle.channel.specs.Row.{activeCount};
 ghost use Rattle.planner.specs.Work.{Within};
-ghost use Rattle.pages.specs.Pages.{spaces, aligned, gainText, cellText, cellAt, cellTextAt};
+ghost use Rattle.pages.specs.Pages.{spaces, aligned, gainText, cellText, cellAt, cellTextAt, placeAt};
 ghost use Rattle.pages.specs.Printing.{pagesPrint, pagesPrinted};
-ghost use Rattle.pages.specs.Reading.{placeAt};
 ghost use Rattle.pages.specs.Work.{blankLines, withCells};
 use answers::SizeResult;
 use planner::Plan;
@@ -129,7 +128,7 @@ fn cell_of(
     bin: usize,
     start: usize,
 ) -> Cell
-    requires { ⌜ (bin < 256) × (bin < length (now row)) × (6 * bin + 6 ≤ length (now x)) ⌝ }
+    requires { ⌜ (start ≤ bin) × (bin < 256) × (bin < length (now row)) × (6 * bin + 6 ≤ length (now x)) ⌝ }
     requires { ⌜ n ≡ activeCount mode (now row) start bin ⌝ }
     ensures { λ r. ⌜ r ≡ cellAt mode (now (gains .entry)) (now (row .entry)) (now (x .entry)) start bin ⌝ }
 {

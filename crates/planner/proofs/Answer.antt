@@ -203,6 +203,20 @@ module _ (row : List ℕ) (start end : ℕ) (x : List Float) (h : planned row st
   unfolding planOf
   answer-lowest mode gains c l = rw (answer-plan row start end x h) (plan-lowest mode gains row x start end c (rw (answer-plan row start end x h) at l))
 
+-- ---- one cause behind another
+-- where neither of two causes holds
+pub first-none : (c d : ℕ) → cause.firstOf c d ≡ 0 → (c ≡ 0) × (d ≡ 0)
+first-none c d = go (eqb c 0) refl
+  where
+    go : (t : Bool) → eqb c 0 ≡ t → cond t d c ≡ 0 → (c ≡ 0) × (d ≡ 0)
+    go true e h = (eqb-true c 0 e, h)
+    go false e h = absurd (eqb-false c 0 e h)
+
+-- a test that gives no cause
+pub fine : (t : Bool) (k : ℕ) → (k ≡ 0 → ⊥) → cond t 0 k ≡ 0 → t ≡ true
+fine true k n h = refl
+fine false k n h = absurd (n h)
+
 -- ---- the cause of a plan that is given
 module _ (p : Plan) (row : List ℕ) (start end : ℕ) (x : List Float) where
   pub plan-cause-row : (k : ℕ) → k ≡ causeOf row start end x → (k ≡ 0 → ⊥) → k ≡ planCause p row start end x
@@ -216,19 +230,24 @@ module _ (p : Plan) (row : List ℕ) (start end : ℕ) (x : List Float) where
   -- Where it is 0, none of the six holds.
   pub plan-cause-none : planCause p row start end x ≡ 0 → (causeOf row start end x ≡ 0) × (planFits p row start end x ≡ true)
   unfolding planCauseUpTo
-  plan-cause-none = go (causeOf row start end x) (eqb (causeOf row start end x) 0) refl (planFits p row start end x)
+  plan-cause-none h = let n = first-none (causeOf row start end x) _ h in (n .0, fine (planFits p row start end x) 6 (λ e. omega arith) (n .1))
+
+  -- They are 1 to 6.
+  pub plan-cause-most : planCause p row start end x ≤ 6
+  unfolding planCauseUpTo
+  plan-cause-most = go (eqb (causeOf row start end x) 0) (planFits p row start end x)
     where
-      go : (k : ℕ) (z : Bool) → eqb k 0 ≡ z → (t : Bool) → cond z (cond t 0 6) k ≡ 0 → (k ≡ 0) × (t ≡ true)
-      go k true e true h = (eqb-true k 0 e, refl)
-      go k true e false h = absurd (omega arith)
-      go k false e t h = absurd (eqb-false k 0 e h)
+      go : (z t : Bool) → cond z (cond t 0 6) (causeOf row start end x) ≤ 6
+      go true true = omega arith
+      go true false = omega arith
+      go false t = let m = cause-most row start end x in omega arith
 
 -- ---- a plan that fits
 module _ (p : Plan) (row : List ℕ) (start end : ℕ) (x : List Float) where
   -- has no more gains than there are places,
-  pub few-gains : Within row start end x → planFits p row start end x ≡ true → p .count ≤ 256
+  pub fits-few : Within row start end x → planFits p row start end x ≡ true → p .count ≤ 256
   unfolding planFits
-  few-gains within fits =
+  fits-few within fits =
       let e = fits-parts (p .mode) (p .gains) (p .count) row start end (both _ _ fits .0) .1 in
       let m = count-most (p .mode) row start end in
       let f = within .row-ok .few in

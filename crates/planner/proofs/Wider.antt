@@ -22,31 +22,28 @@ use Rattle.planner.specs.declared.Plan.{Plan}
 use Rattle.planner.specs.declared.Planned.{Planned}
 use Rattle.planner.proofs.Answer.{number-is}
 
--- ---- causes behind another: rest where that is 0
-abbrev pub behind : ℕ → ℕ → ℕ
-behind rest c = cond (eqb c 0) rest c
-
+-- ---- causes behind another
 not-five : (n : ℕ) → Later n → n ≡ cause.component → ⊥
 not-five n (inl z) e = omega arith
 not-five n (inr z) e = omega arith
 
 module _ (rest : ℕ) (late : Later rest) where
-  behind-five : (c : ℕ) → c ≡ cause.component → behind rest c ≡ cause.component
+  behind-five : (c : ℕ) → c ≡ cause.component → cause.firstOf c rest ≡ cause.component
   behind-five c e = rw e
 
-  five-only : (c : ℕ) → behind rest c ≡ cause.component → c ≡ cause.component
+  five-only : (c : ℕ) → cause.firstOf c rest ≡ cause.component → c ≡ cause.component
   five-only c = go (eqb c 0)
     where
       go : (t : Bool) → cond t rest c ≡ cause.component → c ≡ cause.component
       go true e = absurd (not-five rest late e)
       go false e = e
 
-  behind-late : (c : ℕ) → Later c → Later (behind rest c)
+  behind-late : (c : ℕ) → Later c → Later (cause.firstOf c rest)
   behind-late c (inl z) = rw z late
   behind-late c (inr z) = rw (ne-eqb c 0 (λ e. omega arith)) (inr z)
 
-  pub behind-widened : (over : Bool) (c d : ℕ) → Widened (λ (n : ℕ). n) over c d → Widened (λ (n : ℕ). n) over (behind rest c) (behind rest d)
-  behind-widened = made-of (λ (n : ℕ). n) (λ (n : ℕ). n) (behind rest) behind-five five-only behind-late
+  pub behind-widened : (over : Bool) (c d : ℕ) → Widened (λ (n : ℕ). n) over c d → Widened (λ (n : ℕ). n) over (cause.firstOf c rest) (cause.firstOf d rest)
+  behind-widened = made-of (λ (n : ℕ). n) (λ (n : ℕ). n) (λ c. cause.firstOf c rest) behind-five five-only behind-late
 
 -- nothing, or a cause from 6 on
 pub own-late : (fine : Bool) (c : ℕ) → cause.component < c → Later (cond fine cause.none c)

@@ -35,9 +35,7 @@ planFits p row start end x =
 -- 1 to 6, of every call that takes a plan: the lowest that holds, 0 where the plan fits
 unfoldable pub planCauseUpTo : ℕ → Plan → List ℕ → ℕ → ℕ → List Float → ℕ
 planCauseUpTo limit p row start end x =
-    cond (eqb (causeUpTo limit row start end x) 0)
-    (cond (planFits p row start end x) cause.none cause.planMisfit)
-    (causeUpTo limit row start end x)
+    cause.firstOf (causeUpTo limit row start end x) (cond (planFits p row start end x) cause.none cause.planMisfit)
 
 abbrev pub planCause : Plan → List ℕ → ℕ → ℕ → List Float → ℕ
 planCause = planCauseUpTo largestSize

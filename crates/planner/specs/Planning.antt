@@ -22,8 +22,7 @@ beyondAt limit row x k = not (eqb (getD row k 0) 0) && someBeyond limit (sixOf x
 -- 1 to 5: the lowest that holds, 0 where none does
 unfoldable pub causeUpTo : ℕ → List ℕ → ℕ → ℕ → List Float → ℕ
 causeUpTo limit row start end x =
-    let k = rowCause row start end (ltb (length x) (6 * end)) in
-    cond (eqb k 0) (cond (someOver (beyondAt limit row x) start end) cause.component cause.none) k
+    cause.firstOf (rowCause row start end (ltb (length x) (6 * end))) (cond (someOver (beyondAt limit row x) start end) cause.component cause.none)
 
 -- at the limit that holds
 abbrev pub tooLargeAt : List ℕ → List Float → ℕ → Bool

@@ -1,5 +1,5 @@
 -- What the desk prints: docs/FORMAT.md, Desk text. Text is its bytes, with what they spell beside them.
-use Prim.Native.Nat.{ℕ, zero, suc, _+_, _/_, _%_}
+use Prim.Native.Nat.{ℕ, zero, suc, _+_, _-_, _*_, _/_, _%_}
 use mathlib.Core.Bool.{cond}
 use mathlib.Core.List.{List, [], _∷_, _++_}
 use lib.Dec.{leb}
@@ -11,6 +11,11 @@ use Rattle.planner.specs.Planning.{totalOf, gainsOf}
 unfoldable pub decimal : ℕ → ℕ → List ℕ
 decimal zero n = []
 decimal (suc places) n = cond (leb 10 n) (decimal places (n / 10) ++ ((48 + n % 10) ∷ [])) ((48 + n) ∷ [])
+
+-- and back: the number whose digits are those of v and then ds
+unfoldable pub decimalValue : ℕ → List ℕ → ℕ
+decimalValue v [] = v
+decimalValue v (d ∷ ds) = decimalValue (v * 10 + (d - 48)) ds
 
 abbrev pub numeral : ℕ → List ℕ
 numeral n = decimal 10 n

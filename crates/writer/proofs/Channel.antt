@@ -1,8 +1,9 @@
 -- What is written of a choice is a field of the choice's bits, and is read back. Assumes nothing.
 use Prim.Native.Nat.{ℕ, zero, suc, _+_, _-_, _*_, _≤_, _<_}
-use mathlib.Core.Path.{_≡_, refl, ap, _∙_}
+use mathlib.Core.Path.{_≡_, refl, sym, ap, _∙_}
 use mathlib.Core.List.{List, [], _∷_}
 use mathlib.Core.Bool.{Bool, true, false, cond}
+use native.Mathlib.Nat.{le-trans, le-of-eq}
 use native.Mathlib.Omega.{arith}
 use lib.ListN.{length, getD, take, drop, replicate, length-append, length-drop}
 use lib.Seq.{length-take-le}
@@ -30,7 +31,7 @@ use Rattle.channel.proofs.Rows.{known-hebap, none-active}
 use Rattle.channel.proofs.Laws.{lenient-laws, field-lawful}
 use Rattle.channel.proofs.Parts.{Parts, parts-ok}
 use Rattle.channel.proofs.Same.{by-bin}
-use Rattle.channel.proofs.Most.{bins-long, field-bits}
+use Rattle.channel.proofs.Most.{item-most, bins-long, field-bits}
 use Rattle.planner.specs.Cost.{binBits}
 use Rattle.planner.specs.Choice.{chosenAt, payloadOf, choiceBits, Choice}
 use Rattle.planner.specs.Planning.{tooLargeAt, beyondAt}
@@ -115,6 +116,13 @@ module _ (mode : ℕ) (gains row : List ℕ) (x : List Float) (start end : ℕ) 
   bits-at : (k : ℕ) → start ≤ k → k < end → length (item lenient (binAt mode gains row start k) .enc (writtenAt mode gains row x start k)) ≡ chosenAt mode gains row x start k
   unfolding chosenAt binAt gainAt
   bits-at k l u = bin-bits mode (getD row k 0) _ (sixOf x k) (known-hebap row start end k (within .row-ok .known) l u) (in-vectors k u)
+
+  -- A bin has 120 of them at most.
+  pub bin-few : (k : ℕ) → start ≤ k → k < end → chosenAt mode gains row x start k ≤ 120
+  unfolding binAt
+  bin-few k l u =
+      le-trans (le-of-eq (sym (bits-at k l u))) (item-most lenient lenient-laws mode (getD row k 0) (gainAt mode gains row start k) (writtenAt mode gains row x start k)
+      (item-ok mode (getD row k 0) (gainAt mode gains row start k) (sixOf x k) (in-vectors k u) (six-fine row x k (none-there (tooLargeAt row x) start end inside k l u))))
 
   pub channel-long : length (field row start end .enc (writtenOf mode gains row x start end)) ≡ choiceBits mode gains row x start end
   unfolding choiceBits payloadOf

@@ -9,7 +9,7 @@ use native.Mathlib.Omega.{arith}
 use lib.Ieee.{Float}
 use lib.Dec.{eqb, leb}
 use lib.ListN.{length, take, drop}
-use borrow.Author.Tests.{eqb-true, eqb-false, leb-true}
+use borrow.Author.Tests.{eqb-true, leb-true}
 use Rattle.answers.specs.Causes as cause
 use Rattle.bits.specs.Bits.{bitsOf, splice, posOf, bytesWith}
 use Rattle.bits.proofs.Laws.{length-bitsOf, bits-with, splice-before, splice-after}
@@ -23,7 +23,7 @@ use Rattle.planner.specs.Planning.{tooLargeAt, causeOf, planned, totalOf, gains
 use Rattle.planner.specs.Work.{Within}
 use Rattle.planner.specs.Fit.{planFits, planCause}
 use Rattle.planner.specs.declared.Plan.{Plan}
-use Rattle.planner.proofs.Answer.{cause-none, refusal-is, answer-fits, answer-choice, plan-cause-fit, plan-cause-none, few-gains, fitting}
+use Rattle.planner.proofs.Answer.{cause-none, refusal-is, answer-fits, answer-choice, first-none, fine, plan-cause-fit, plan-cause-none, fits-few, fitting}
 use Rattle.writer.specs.declared.ChannelWrite.the-variants.{Done}
 use Rattle.writer.specs.Written.{writtenOf, fieldOf, writeCause, writeCauseUpTo, channelWrite, channelWritten, channelWrittenUpTo}
 use Rattle.writer.proofs.Channel.{channel-ok, channel-long}
@@ -34,7 +34,7 @@ module _ (p : Plan) (row : List ℕ) (start end : ℕ) (x : List Float) (places 
   pub fits-long : causeOf row start end x ≡ 0 → planFits p row start end x ≡ true → length (fieldOf p row start end x) ≡ totalOf p
   fits-long none fits =
       let k = cause-none row start end x none in
-      let few = few-gains p row start end x (k .0) fits in
+      let few = fits-few p row start end x (k .0) fits in
       let c = fitting p row start end x fits (omega arith) in
       channel-long (p .mode) (gainsOf p) row x start end (k .0) (k .1) (c .0) ∙ c .1
 
@@ -42,7 +42,7 @@ module _ (p : Plan) (row : List ℕ) (start end : ℕ) (x : List Float) (places 
   pub fits-most : causeOf row start end x ≡ 0 → planFits p row start end x ≡ true → totalOf p ≤ 31152
   fits-most none fits =
       let k = cause-none row start end x none in
-      let few = few-gains p row start end x (k .0) fits in
+      let few = fits-few p row start end x (k .0) fits in
       let c = fitting p row start end x fits (omega arith) in
       let o = channel-ok (p .mode) (gainsOf p) row x start end (k .0) (k .1) (c .0) in
       le-trans (le-of-eq (sym (fits-long none fits))) (field-most lenient lenient-laws row start end (writtenOf (p .mode) (gainsOf p) row x start end) o (k .0 .row-ok .few))
@@ -50,13 +50,10 @@ module _ (p : Plan) (row : List ℕ) (start end : ℕ) (x : List Float) (places 
   -- where something is written, no cause holds
   pub written-when : (n at : ℕ) → writeCause p row start end x n at ≡ 0 → (causeOf row start end x ≡ 0) × (planFits p row start end x ≡ true) × (at + totalOf p ≤ n)
   unfolding writeCauseUpTo
-  written-when n at = go (planCause p row start end x) (plan-cause-none p row start end x) (eqb (planCause p row start end x) 0) refl (leb (at + totalOf p) n) refl
-    where
-      go : (k : ℕ) → (k ≡ 0 → (causeOf row start end x ≡ 0) × (planFits p row start end x ≡ true)) → (c : Bool) → eqb k 0 ≡ c → (l : Bool) → leb (at + totalOf p) n ≡ l
-          → cond c (cond l cause.none cause.outputFull) k ≡ 0 → (causeOf row start end x ≡ 0) × (planFits p row start end x ≡ true) × (at + totalOf p ≤ n)
-      go k f true e true l z = let g = f (eqb-true k 0 e) in (g .0, g .1, leb-true _ _ l)
-      go k f true e false l z = absurd (omega arith)
-      go k f false e d l z = absurd (eqb-false k 0 e z)
+  written-when n at h =
+      let c = first-none (planCause p row start end x) _ h in
+      let f = plan-cause-none p row start end x (c .0) in
+      (f .0, f .1, leb-true _ _ (fine (leb (at + totalOf p) n) 7 (λ e. omega arith) (c .1)))
 
   -- A bit outside the field is as it was before, whatever the call answers.
   pub outside-kept : (out : List ℕ) (at : ℕ)

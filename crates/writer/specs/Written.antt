@@ -47,9 +47,7 @@ fieldOf p row start end x = field row start end .enc (writtenOf (p .mode) (gains
 -- causes 1 to 7 for the position at of n bits: the lowest that holds, 0 where none does
 unfoldable pub writeCauseUpTo : ℕ → Plan → List ℕ → ℕ → ℕ → List Float → ℕ → ℕ → ℕ
 writeCauseUpTo limit p row start end x n at =
-    cond (eqb (planCauseUpTo limit p row start end x) 0)
-    (cond (leb (at + totalOf p) n) cause.none cause.outputFull)
-    (planCauseUpTo limit p row start end x)
+    cause.firstOf (planCauseUpTo limit p row start end x) (cond (leb (at + totalOf p) n) cause.none cause.outputFull)
 
 -- the answer: the position behind the field, or the refusal
 unfoldable pub channelWriteUpTo : ℕ → Plan → List ℕ → ℕ → ℕ → List Float → List ℕ → ℕ → ChannelWrite

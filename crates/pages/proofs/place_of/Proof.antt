@@ -1,7 +1,7 @@
 -- `pages::place_of` meets its contract. Assumes nothing.
 use native.Mathlib.Omega.{arith}
 use borrow.Author.Needs.{needs}
-use Rattle.pages.specs.Reading.{placeAt}
+use Rattle.pages.specs.Pages.{placeAt}
 use Rattle.pages.proofs.place_of.Statement.{statement}
 use Rattle.pages.proofs.place_of.Tie as tie
 

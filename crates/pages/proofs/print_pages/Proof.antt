@@ -11,7 +11,7 @@ use lib.Seq.{length-take-le}
 use Rattle.planner.specs.Fit.{planFits, planCause}
 use Rattle.planner.specs.Planning.{causeOf}
 use Rattle.planner.specs.Work.{Within}
-use Rattle.planner.proofs.Answer.{cause-none, plan-cause-none, few-gains}
+use Rattle.planner.proofs.Answer.{cause-none, plan-cause-none, fits-few}
 use Rattle.pages.specs.Pages.{pageCount}
 use Rattle.pages.proofs.Lines.{place-end}
 use Rattle.pages.proofs.Call.{places-enough, call-cause, call-short, call-good}
@@ -36,7 +36,7 @@ few : (c : tie.Else1) → let p = c .before .before .before .before .before .arg
 few c =
     let s = c .before .before .before .before .before in
     let a = s .args in
-    le-trans (few-gains (a .plan) (now (a .hebap)) (a .start) (a .end) (now (a .x)) (within c) (fits c .1)) (le-of-eq (sym (places s)))
+    le-trans (fits-few (a .plan) (now (a .hebap)) (a .start) (a .end) (now (a .x)) (within c) (fits c .1)) (le-of-eq (sym (places s)))
 
 returns : tie.Need-returns
 returns c =

@@ -42,7 +42,7 @@ cell-of-requires c κs =
     let f = w .row-ok .few in
     let r = w .row-ok .rows in
     let v = w .vectors in
-    ((omega arith, omega arith, omega arith), l .loop .inv .2)
+    ((l .loop .inv .0, omega arith, omega arith, omega arith), l .loop .inv .2)
 
 place-of-requires : tie.Need-place-of-requires Inv-loop μ-loop
 place-of-requires c κs = let f = c .before .before .before .before .before .before .before .before .pre .0 .row-ok .few in omega arith

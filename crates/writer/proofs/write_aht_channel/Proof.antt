@@ -14,7 +14,7 @@ use Rattle.planner.specs.Choice.{choiceBits, Choice}
 use Rattle.planner.specs.Work.{Within}
 use Rattle.planner.specs.Planning.{causeOf, totalOf, gainsOf}
 use Rattle.planner.specs.Fit.{planFits, planCause}
-use Rattle.planner.proofs.Answer.{cause-none, plan-cause-none, few-gains, fitting}
+use Rattle.planner.proofs.Answer.{cause-none, plan-cause-none, fits-few, fitting}
 use Rattle.writer.specs.Written.{fieldOf}
 use Rattle.writer.proofs.Planned.{fits-long}
 use Rattle.writer.proofs.Call.{call-cause, call-short, call-good}
@@ -45,7 +45,7 @@ few : (c : tie.Else1) → let p = c .before .before .before .before .before .arg
 few c =
     let s = c .before .before .before .before .before in
     let a = s .args in
-    le-trans (few-gains (a .plan) (now (a .hebap)) (a .start) (a .end) (now (a .x)) (within c) (fits c .1)) (le-of-eq (sym (places s)))
+    le-trans (fits-few (a .plan) (now (a .hebap)) (a .start) (a .end) (now (a .x)) (within c) (fits c .1)) (le-of-eq (sym (places s)))
 
 choice : (c : tie.Else1)
     → let a = c .before .before .before .before .before .args in
