@@ -21,14 +21,13 @@ use Rattle.channel.proofs.Over.{sum-same, over-next, over-end}
 use Rattle.channel.proofs.Rows.{known-hebap}
 use Rattle.planner.specs.declared.Plan.{Plan}
 use Rattle.planner.specs.Cost.{binBits}
-use Rattle.planner.specs.Choice.{chosenAt, payloadOf, Choice}
+use Rattle.planner.specs.Choice.{chosenAt, payloadOf}
 use Rattle.planner.specs.Planning.{gainsOf}
 use Rattle.planner.specs.Fit.{planCause}
 use Rattle.planner.specs.Work.{Within}
 use Rattle.planner.proofs.Codes.{bin-most}
 use Rattle.planner.proofs.Optimal.{rank-lt}
-use Rattle.planner.proofs.Chosen.{fits-choice}
-use Rattle.planner.proofs.Answer.{cause-none, first-none, fine, plan-cause-none, plan-cause-most, fits-few}
+use Rattle.planner.proofs.Answer.{cause-none, first-none, fine, plan-cause-none, plan-cause-most, Fitting, plan-fitting}
 use Rattle.pages.specs.declared.Cell.{Cell}
 use Rattle.answers.specs.Answers.{sizeNumber}
 use Rattle.answers.specs.Causes as cause
@@ -95,20 +94,17 @@ module _ (p : Plan) (row : List ℕ) (start end : ℕ) (x : List Float) where
     pages-most = let f = within .row-ok .few in omega arith
 
     module _ (places : length (p .gains) ≡ 256) where
-      room : p .count ≤ length (p .gains)
-      room = let f = fits-few p row start end x within (plan-cause-none p row start end x none .1) in omega arith
-
-      choice : Choice (p .mode) (gainsOf p) row start end
-      choice = fits-choice p row start end x room (plan-cause-none p row start end x none .1) .0
+      fit : Fitting p row start end x
+      fit = plan-fitting p row start end x places none
 
       -- a gain is 1, 2 or 4
       gain-range : (k : ℕ) → start ≤ k → k < end → active (p .mode) (getD row k 0) ≡ true → (1 ≤ shown k .gk) × (shown k .gk ≤ 4)
       unfolding cellAt gainAt
       gain-range k l u a =
           let i = activeCount (p .mode) row start k in
-          let o = choice .one-each in
+          let o = fit .choice .one-each in
           let h = rank-lt (p .mode) row start k end l u a in
-          rw a (three-gains (p .mode) (getD (gainsOf p) i 0) (λ g. (1 ≤ g) × (g ≤ 4)) (choice .allowed i (omega arith)) (omega arith, omega arith) (omega arith, omega arith) (omega arith, omega arith))
+          rw a (three-gains (p .mode) (getD (gainsOf p) i 0) (λ g. (1 ≤ g) × (g ≤ 4)) (fit .choice .allowed i (omega arith)) (omega arith, omega arith) (omega arith, omega arith) (omega arith, omega arith))
 
       no-gain : (k : ℕ) → start ≤ k → k < end → (shown k .gk ≡ 0) ↔ (active (p .mode) (getD row k 0) ≡ false)
       unfolding cellAt
@@ -179,12 +175,10 @@ module _ (p : Plan) (row : List ℕ) (start end : ℕ) (x : List Float) where
       pub bits-add-up : sumOver (λ k. cellIn (atPlace text (k - start)) .bits) start end + gainWordBits (p .mode) (p .count) ≡ p .payload
       unfolding payloadOf cellAt
       bits-add-up =
-          let c = fits-choice p row start end x room (plan-cause-none p row start end x none .1) in
-          let l : length (gainsOf p) ≡ p .count = length-take-le (p .count) (p .gains) room in
-          let o = choice .one-each in
-          let n : p .count ≡ activeCount (p .mode) row start end = sym l ∙ o in
+          let l : length (gainsOf p) ≡ p .count = length-take-le (p .count) (p .gains) (fit .room) in
+          let n : p .count ≡ activeCount (p .mode) row start end = sym l ∙ fit .choice .one-each in
           rw (sum-same (λ k. cellIn (atPlace text (k - start)) .bits) (chosenAt (p .mode) (gainsOf p) row x start) start end (λ k a b. ap (λ (c : Cell). c .bits) (bin-read k a b)))
-          (ap (λ (m : ℕ). sumOver (chosenAt (p .mode) (gainsOf p) row x start) start end + gainWordBits (p .mode) m) n ∙ sym (c .1))
+          (ap (λ (m : ℕ). sumOver (chosenAt (p .mode) (gainsOf p) row x start) start end + gainWordBits (p .mode) m) n ∙ sym (fit .payload))
 
   -- ---- the call
   -- its number is the cause

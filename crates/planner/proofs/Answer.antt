@@ -16,7 +16,7 @@ use Rattle.channel.specs.Bins.{someOver}
 use Rattle.channel.specs.Row.{noGains, sixOf, rowCause}
 use Rattle.channel.proofs.Over.{none-of}
 use Rattle.channel.proofs.Rows.{row-ok, cause-4-or-0, count-most, row-cause-most}
-use Rattle.planner.specs.Choice.{leastUpTo, leastOf, planMode, planGains, planPayload, choiceBits, Choice, gainsOver}
+use Rattle.planner.specs.Choice.{leastUpTo, leastOf, planMode, planGains, planPayload, payloadOf, choiceBits, Choice, gainsOver}
 use Rattle.planner.specs.Work.{modeAt, TalliesOf, payloadIn, Within}
 use Rattle.planner.specs.Planning.{tooLargeAt, beyondAt, refusalOf, planOf, causeOf, causeUpTo, planned, plannedUpTo, totalOf, gainsOf}
 use Rattle.planner.specs.Fit.{planFits, planCause, planCauseUpTo}
@@ -253,8 +253,24 @@ module _ (p : Plan) (row : List ℕ) (start end : ℕ) (x : List Float) where
       let f = within .row-ok .few in
       omega arith
 
-  -- and is a choice that has its total as bits
-  pub fitting : planFits p row start end x ≡ true → p .count ≤ length (p .gains)
-      → Choice (p .mode) (gainsOf p) row start end × (choiceBits (p .mode) (gainsOf p) row x start end ≡ totalOf p)
+-- what holds of it where none of causes 1 to 5 does: its gains stand in their places, and it is a choice of its total
+pub record Fitting (p : Plan) (row : List ℕ) (start end : ℕ) (x : List Float) : Type 0 where
+  pub within : Within row start end x
+  pub inside : someOver (tooLargeAt row x) start end ≡ false
+  pub room : p .count ≤ length (p .gains)
+  pub choice : Choice (p .mode) (gainsOf p) row start end
+  pub payload : p .payload ≡ payloadOf (p .mode) (gainsOf p) row x start end
+  pub bits : choiceBits (p .mode) (gainsOf p) row x start end ≡ totalOf p
+
+module _ (p : Plan) (row : List ℕ) (start end : ℕ) (x : List Float) (places : length (p .gains) ≡ 256) where
+  pub fitting : causeOf row start end x ≡ 0 → planFits p row start end x ≡ true → Fitting p row start end x
   unfolding choiceBits
-  fitting fits few = let c = fits-choice p row start end x few fits in (c .0, ap (λ (b : ℕ). 2 + b) (sym (c .1)))
+  fitting none fits =
+      let k = cause-none row start end x none in
+      let few = fits-few p row start end x (k .0) fits in
+      let room : p .count ≤ length (p .gains) = omega arith in
+      let c = fits-choice p row start end x room fits in
+      record { within = k .0; inside = k .1; room = room; choice = c .0; payload = c .1; bits = ap (λ (b : ℕ). 2 + b) (sym (c .1)) }
+
+  pub plan-fitting : planCause p row start end x ≡ 0 → Fitting p row start end x
+  plan-fitting none = let f = plan-cause-none p row start end x none in fitting (f .0) (f .1)

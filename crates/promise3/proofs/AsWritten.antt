@@ -36,7 +36,7 @@ use Rattle.writer.proofs.Planned.{fits-long, written-when}
 use Rattle.planner.specs.Choice.{Choice}
 use Rattle.planner.specs.Planning.{totalOf, gainsOf}
 use Rattle.planner.specs.declared.Plan.{Plan}
-use Rattle.planner.proofs.Answer.{cause-none, fits-few, fitting}
+use Rattle.planner.proofs.Answer.{fitting}
 use Rattle.planner.proofs.Optimal.{rank-lt, active-one, active-none}
 use Rattle.promise3.proofs.Places.{map-behind}
 use Rattle.promise3.specs.Ahtenc.{gainOfMapped, mappedOf, hasGain, Write, write, bitsPut, afterWrites, behindWrites, bitWrite, wordWrites, gainWrites, codeWrites, mantissaWrites, binWrites, codesBehind, binsWrites, ahtWrites}
@@ -327,16 +327,14 @@ module _ (p : Plan) (row : List ℕ) (start end : ℕ) (x : List Float) (places 
   unfolding ahtWrites
   calls-put out at z =
       let w = written-when p row start end x places (8 * length out) at z in
-      let k = cause-none row start end x (w .0) in
-      let r = k .0 .row-ok in
-      let n = fits-few p row start end x (k .0) (w .1) in
-      let c = fitting p row start end x (w .1) (omega arith) .0 in
+      let g = fitting p row start end x places (w .0) (w .1) in
+      let r = g .within .row-ok in
       let known : (j : ℕ) → start ≤ j → j < end → getD row j 0 ≤ 19 = λ j l u. known-hebap row start end j (r .known) l u in
       let o = r .ordered in
       let codes = map mappedOf (gainsOf p) in
       let words = gainWrites (p .mode) codes in
       let bins = binsWrites (p .mode) row x codes start (end - start) in
-      let f = field-put (p .mode) (gainsOf p) row x start end c (k .0 .vectors) known o in
+      let f = field-put (p .mode) (gainsOf p) row x start end (g .choice) (g .within .vectors) known o in
       let l : length (bitsPut calls) ≡ totalOf p = sym (ap length f) ∙ fits-long p row start end x places (w .0) (w .1) in
       let room = w .2 in
       let few = few-append words bins (gains-few (p .mode) codes) (bins-few (p .mode) row x (end - start) start end codes known (omega arith)) in (

@@ -15,9 +15,9 @@ use Rattle.gains.specs.Gains.{gainWordBits}
 use Rattle.channel.specs.Bins.{sumOver}
 use Rattle.planner.specs.declared.Plan.{Plan}
 use Rattle.levels.specs.Component.{largestSize}
-use Rattle.planner.specs.Planning.{causeOf, gainsOf, totalOf}
-use Rattle.planner.specs.Fit.{planFits, planCause}
-use Rattle.planner.proofs.Answer.{cause-none, plan-cause-none, fits-few, fitting}
+use Rattle.planner.specs.Planning.{gainsOf, totalOf}
+use Rattle.planner.specs.Fit.{planCause}
+use Rattle.planner.proofs.Answer.{plan-cause-none, plan-fitting}
 use Rattle.writer.specs.Written.{fieldOf, writeNumber, writeCauseUpTo, channelWrite}
 use Rattle.writer.proofs.Channel.{bin-few}
 use Rattle.writer.proofs.Planned.{fits-long}
@@ -58,19 +58,16 @@ module _ (p : Plan) (row : List ℕ) (start end : ℕ) (x : List Float) where
 
   -- ---- a plan that fits
   module _ (none : planCause p row start end x ≡ 0) (places : length (p .gains) ≡ 256) where
-    fits : (causeOf row start end x ≡ 0) × (planFits p row start end x ≡ true)
-    fits = plan-cause-none p row start end x none
-
     -- Its field has the two bits of the mode, the gain words, and the bits that its pages show,
     pub field-as-shown : length (fieldOf p row start end x)
         ≡ 2 + (sumOver (λ k. cellIn (atPlace (pagesText p row start end x) (k - start)) .bits) start end + gainWordBits (p .mode) (p .count))
-    field-as-shown = fits-long p row start end x places (fits .0) (fits .1) ∙ ap (λ (n : ℕ). 2 + n) (sym (bits-add-up p row start end x none places))
+    field-as-shown =
+        let f = plan-cause-none p row start end x none in
+        fits-long p row start end x places (f .0) (f .1) ∙ ap (λ (n : ℕ). 2 + n) (sym (bits-add-up p row start end x none places))
 
     -- and of a bin these are 120 at most.
     pub bits-most : (k : ℕ) → start ≤ k → k < end → cellIn (atPlace (pagesText p row start end x) (k - start)) .bits ≤ 120
     unfolding cellAt
     bits-most k l u =
-        let c = cause-none row start end x (fits .0) in
-        let f = fits-few p row start end x (c .0) (fits .1) in
-        let h = fitting p row start end x (fits .1) (omega arith) in
-        rw (bin-read p row start end x none places k l u) (bin-few (p .mode) (gainsOf p) row x start end (c .0) (c .1) (h .0) k l u)
+        let f = plan-fitting p row start end x places none in
+        rw (bin-read p row start end x none places k l u) (bin-few (p .mode) (gainsOf p) row x start end (f .within) (f .inside) (f .choice) k l u)

@@ -23,7 +23,7 @@ use Rattle.planner.specs.Planning.{tooLargeAt, causeOf, planned, totalOf, gains
 use Rattle.planner.specs.Work.{Within}
 use Rattle.planner.specs.Fit.{planFits, planCause}
 use Rattle.planner.specs.declared.Plan.{Plan}
-use Rattle.planner.proofs.Answer.{cause-none, refusal-is, answer-fits, answer-choice, first-none, fine, plan-cause-fit, plan-cause-none, fits-few, fitting}
+use Rattle.planner.proofs.Answer.{cause-none, refusal-is, answer-fits, answer-choice, first-none, fine, plan-cause-fit, plan-cause-none, fitting}
 use Rattle.writer.specs.declared.ChannelWrite.the-variants.{Done}
 use Rattle.writer.specs.Written.{writtenOf, fieldOf, writeCause, writeCauseUpTo, channelWrite, channelWritten, channelWrittenUpTo}
 use Rattle.writer.proofs.Channel.{channel-ok, channel-long}
@@ -33,19 +33,15 @@ use Rattle.writer.proofs.Call.{call-good}
 module _ (p : Plan) (row : List ℕ) (start end : ℕ) (x : List Float) (places : length (p .gains) ≡ 256) where
   pub fits-long : causeOf row start end x ≡ 0 → planFits p row start end x ≡ true → length (fieldOf p row start end x) ≡ totalOf p
   fits-long none fits =
-      let k = cause-none row start end x none in
-      let few = fits-few p row start end x (k .0) fits in
-      let c = fitting p row start end x fits (omega arith) in
-      channel-long (p .mode) (gainsOf p) row x start end (k .0) (k .1) (c .0) ∙ c .1
+      let f = fitting p row start end x places none fits in
+      channel-long (p .mode) (gainsOf p) row x start end (f .within) (f .inside) (f .choice) ∙ f .bits
 
   -- The greatest field: no plan that fits has more than 31,152 bits.
   pub fits-most : causeOf row start end x ≡ 0 → planFits p row start end x ≡ true → totalOf p ≤ 31152
   fits-most none fits =
-      let k = cause-none row start end x none in
-      let few = fits-few p row start end x (k .0) fits in
-      let c = fitting p row start end x fits (omega arith) in
-      let o = channel-ok (p .mode) (gainsOf p) row x start end (k .0) (k .1) (c .0) in
-      le-trans (le-of-eq (sym (fits-long none fits))) (field-most lenient lenient-laws row start end (writtenOf (p .mode) (gainsOf p) row x start end) o (k .0 .row-ok .few))
+      let f = fitting p row start end x places none fits in
+      let o = channel-ok (p .mode) (gainsOf p) row x start end (f .within) (f .inside) (f .choice) in
+      le-trans (le-of-eq (sym (fits-long none fits))) (field-most lenient lenient-laws row start end (writtenOf (p .mode) (gainsOf p) row x start end) o (f .within .row-ok .few))
 
   -- where something is written, no cause holds
   pub written-when : (n at : ℕ) → writeCause p row start end x n at ≡ 0 → (causeOf row start end x ≡ 0) × (planFits p row start end x ≡ true) × (at + totalOf p ≤ n)

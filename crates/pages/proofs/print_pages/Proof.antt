@@ -1,17 +1,12 @@
 -- `pages::print_pages` meets its contract. Assumes nothing.
 use native.Mathlib.Omega.{arith}
-use native.Mathlib.Nat.{le-trans, le-of-eq}
 use borrow.Author.Needs.{needs}
-use Prim.Native.Nat.{_≤_}
 use mathlib.Core.Path.{_≡_, refl, sym, _∙_}
-use mathlib.Core.Bool.{true}
 use denote.Ref.{now}
 use lib.ListN.{length}
 use lib.Seq.{length-take-le}
-use Rattle.planner.specs.Fit.{planFits, planCause}
-use Rattle.planner.specs.Planning.{causeOf}
-use Rattle.planner.specs.Work.{Within}
-use Rattle.planner.proofs.Answer.{cause-none, plan-cause-none, fits-few}
+use Rattle.planner.specs.Fit.{planCause}
+use Rattle.planner.proofs.Answer.{Fitting, plan-fitting}
 use Rattle.pages.specs.Pages.{pageCount}
 use Rattle.pages.proofs.Lines.{place-end}
 use Rattle.pages.proofs.Call.{places-enough, call-cause, call-short, call-good}
@@ -22,21 +17,11 @@ use Rattle.pages.proofs.print_pages.Tie as tie
 none : (c : tie.Else1) → let a = c .before .before .before .before .before .args in planCause (a .plan) (now (a .hebap)) (a .start) (a .end) (now (a .x)) ≡ 0
 none c = sym (c .before .plan-cause .ensures) ∙ c .if1 .left
 
-fits : (c : tie.Else1) → let a = c .before .before .before .before .before .args in
-    (causeOf (now (a .hebap)) (a .start) (a .end) (now (a .x)) ≡ 0) × (planFits (a .plan) (now (a .hebap)) (a .start) (a .end) (now (a .x)) ≡ true)
-fits c = let a = c .before .before .before .before .before .args in plan-cause-none (a .plan) (now (a .hebap)) (a .start) (a .end) (now (a .x)) (none c)
-
-within : (c : tie.Else1) → let a = c .before .before .before .before .before .args in Within (now (a .hebap)) (a .start) (a .end) (now (a .x))
-within c = let a = c .before .before .before .before .before .args in cause-none (now (a .hebap)) (a .start) (a .end) (now (a .x)) (fits c .0) .0
-
-places : (c : tie.Start) → length (c .args .plan .gains) ≡ 256
-places c = search needs
-
-few : (c : tie.Else1) → let p = c .before .before .before .before .before .args .plan in p .count ≤ length (p .gains)
-few c =
+fit : (c : tie.Else1) → let a = c .before .before .before .before .before .args in Fitting (a .plan) (now (a .hebap)) (a .start) (a .end) (now (a .x))
+fit c =
     let s = c .before .before .before .before .before in
     let a = s .args in
-    le-trans (fits-few (a .plan) (now (a .hebap)) (a .start) (a .end) (now (a .x)) (within c) (fits c .1)) (le-of-eq (sym (places s)))
+    plan-fitting (a .plan) (now (a .hebap)) (a .start) (a .end) (now (a .x)) (search needs) (none c)
 
 returns : tie.Need-returns
 returns c =
@@ -44,16 +29,16 @@ returns c =
     call-cause (a .plan) (now (a .hebap)) (a .start) (a .end) (now (a .x)) (now (a .out)) _ (c .before .plan-cause .ensures) (c .if1 .taken)
 
 sub-lines : tie.Need-sub-lines
-sub-lines c = let r = within c .row-ok in search needs
+sub-lines c = let r = fit c .within .row-ok in search needs
 
 add-lines : tie.Need-add-lines
-add-lines c = let r = within c .row-ok in let f = r .few in search needs
+add-lines c = let r = fit c .within .row-ok in let f = r .few in search needs
 
 mul-lines : tie.Need-mul-lines
-mul-lines c = let f = within c .row-ok .few in search needs
+mul-lines c = let f = fit c .within .row-ok .few in search needs
 
 mul-if2 : tie.Need-mul-if2
-mul-if2 c = let f = within c .row-ok .few in search needs
+mul-if2 c = let f = fit c .within .row-ok .few in search needs
 
 returns-2 : tie.Need-returns-2
 unfolding pageCount
@@ -63,13 +48,13 @@ returns-2 c =
     call-short (a .plan) (now (a .hebap)) (a .start) (a .end) (now (a .x)) (now (a .out)) (none f) (omega arith)
 
 array-share-prefix-gains : tie.Need-array-share-prefix-gains
-array-share-prefix-gains c = few (c .before .before .before .before .before .before .before)
+array-share-prefix-gains c = fit (c .before .before .before .before .before .before .before) .room
 
 slice-aggregate-put-cells : tie.Need-slice-aggregate-put-cells
 slice-aggregate-put-cells c =
     let f = c .before .before .before .before .before .before .before .before in
     let p = f .before .before .before .before .before .args .plan in
-    sym (length-take-le (p .count) (p .gains) (few f))
+    sym (length-take-le (p .count) (p .gains) (fit f .room))
 
 put-cells-requires : tie.Need-put-cells-requires
 unfolding pageCount
@@ -81,12 +66,12 @@ put-cells-requires c κs =
     let e : length (b .put-blank .last .0) ≡ length (now (a .out)) = b .put-blank .kept .0 in
     let q = places-enough (a .start) (a .end) in
     let p = place-end _ _ q in
-    (within f, omega arith)
+    (fit f .within, omega arith)
 
 mul-t14 : tie.Need-mul-t14
 mul-t14 c =
     let f = c .before .before .before .before .before .before .before .before .before .before .before in
-    let w = within f .row-ok .few in
+    let w = fit f .within .row-ok .few in
     search needs
 
 same-length : tie.Need-same-length

@@ -4,17 +4,14 @@ use borrow.Author.Needs.{needs}
 use borrow.Author.Tests.{not-true, not-false, leb-true, leb-false}
 use Prim.Native.Nat.{_+_, _*_, _≤_, _<_}
 use native.Mathlib.Nat.{le-trans, le-of-eq}
-use mathlib.Core.Bool.{true}
 use mathlib.Core.Path.{_≡_, refl, sym, ap, _∙_}
 use denote.Ref.{now}
 use lib.ListN.{length}
 use lib.Seq.{length-take-le}
 use Rattle.bits.specs.Bits.{bitAt}
-use Rattle.planner.specs.Choice.{choiceBits, Choice}
-use Rattle.planner.specs.Work.{Within}
-use Rattle.planner.specs.Planning.{causeOf, totalOf, gainsOf}
-use Rattle.planner.specs.Fit.{planFits, planCause}
-use Rattle.planner.proofs.Answer.{cause-none, plan-cause-none, fits-few, fitting}
+use Rattle.planner.specs.Planning.{totalOf}
+use Rattle.planner.specs.Fit.{planCause}
+use Rattle.planner.proofs.Answer.{Fitting, plan-cause-none, plan-fitting}
 use Rattle.writer.specs.Written.{fieldOf}
 use Rattle.writer.proofs.Planned.{fits-long}
 use Rattle.writer.proofs.Call.{call-cause, call-short, call-good}
@@ -25,9 +22,14 @@ use Rattle.writer.proofs.write_aht_channel.Tie as tie
 none : (c : tie.Else1) → let a = c .before .before .before .before .before .args in planCause (a .plan) (now (a .hebap)) (a .start) (a .end) (now (a .x)) ≡ 0
 none c = sym (c .before .plan-cause .ensures) ∙ c .if1 .left
 
-fits : (c : tie.Else1) → let a = c .before .before .before .before .before .args in
-    (causeOf (now (a .hebap)) (a .start) (a .end) (now (a .x)) ≡ 0) × (planFits (a .plan) (now (a .hebap)) (a .start) (a .end) (now (a .x)) ≡ true)
-fits c = let a = c .before .before .before .before .before .args in plan-cause-none (a .plan) (now (a .hebap)) (a .start) (a .end) (now (a .x)) (none c)
+places : (c : tie.Start) → length (c .args .plan .gains) ≡ 256
+places c = search needs
+
+fit : (c : tie.Else1) → let a = c .before .before .before .before .before .args in Fitting (a .plan) (now (a .hebap)) (a .start) (a .end) (now (a .x))
+fit c =
+    let s = c .before .before .before .before .before in
+    let a = s .args in
+    plan-fitting (a .plan) (now (a .hebap)) (a .start) (a .end) (now (a .x)) (places s) (none c)
 
 room : (c : tie.Else2) → let a = c .before .before .before .before .before .before .before .before .args in bitAt (a .pos) + totalOf (a .plan) ≤ 8 * length (now (a .out))
 room c =
@@ -35,32 +37,12 @@ room c =
     let h : bitAt (a .pos) + 1 * totalOf (a .plan) ≤ 8 * length (now (a .out)) = leb-true _ _ (sym (c .before .has-bits .ensures) ∙ not-false _ (c .if2 .left)) in
     omega arith
 
-within : (c : tie.Else1) → let a = c .before .before .before .before .before .args in Within (now (a .hebap)) (a .start) (a .end) (now (a .x))
-within c = let a = c .before .before .before .before .before .args in cause-none (now (a .hebap)) (a .start) (a .end) (now (a .x)) (fits c .0) .0
-
-places : (c : tie.Start) → length (c .args .plan .gains) ≡ 256
-places c = search needs
-
-few : (c : tie.Else1) → let p = c .before .before .before .before .before .args .plan in p .count ≤ length (p .gains)
-few c =
-    let s = c .before .before .before .before .before in
-    let a = s .args in
-    le-trans (fits-few (a .plan) (now (a .hebap)) (a .start) (a .end) (now (a .x)) (within c) (fits c .1)) (le-of-eq (sym (places s)))
-
-choice : (c : tie.Else1)
-    → let a = c .before .before .before .before .before .args in
-    Choice (a .plan .mode) (gainsOf (a .plan)) (now (a .hebap)) (a .start) (a .end)
-    × (choiceBits (a .plan .mode) (gainsOf (a .plan)) (now (a .hebap)) (now (a .x)) (a .start) (a .end) ≡ totalOf (a .plan))
-choice c =
-    let a = c .before .before .before .before .before .args in
-    fitting (a .plan) (now (a .hebap)) (a .start) (a .end) (now (a .x)) (fits c .1) (few c)
-
 -- the field is as long as announced
 long : (c : tie.Else1) → let a = c .before .before .before .before .before .args in length (fieldOf (a .plan) (now (a .hebap)) (a .start) (a .end) (now (a .x))) ≡ totalOf (a .plan)
 long c =
     let s = c .before .before .before .before .before in
     let a = s .args in
-    let f = fits c in
+    let f = plan-cause-none (a .plan) (now (a .hebap)) (a .start) (a .end) (now (a .x)) (none c) in
     fits-long (a .plan) (now (a .hebap)) (a .start) (a .end) (now (a .x)) (places s) (f .0) (f .1)
 
 returns : tie.Need-returns
@@ -76,21 +58,20 @@ returns-2 c =
     call-short (a .plan) (now (a .hebap)) (a .start) (a .end) (now (a .x)) (now (a .out)) (bitAt (a .pos)) (none p) (omega arith)
 
 array-share-prefix-gains : tie.Need-array-share-prefix-gains
-array-share-prefix-gains c = few (c .before .before .before .before .before)
+array-share-prefix-gains c = fit (c .before .before .before .before .before) .room
 
 slice-aggregate-write-choice : tie.Need-slice-aggregate-write-choice
 slice-aggregate-write-choice c =
     let f = c .before .before .before .before .before .before in
     let p = f .before .before .before .before .before .args .plan in
-    sym (length-take-le (p .count) (p .gains) (few f))
+    sym (length-take-le (p .count) (p .gains) (fit f .room))
 
 write-choice-requires : tie.Need-write-choice-requires
 write-choice-requires c κs =
     let e = c .before .before .before in
     let f = e .before .before .before in
     let a = f .before .before .before .before .before .args in
-    let h = choice f in
-    (within f, (h .0, le-trans (le-of-eq (ap (λ n. bitAt (a .pos) + n) (long f))) (room e)))
+    (fit f .within, (fit f .choice, le-trans (le-of-eq (ap (λ n. bitAt (a .pos) + n) (long f))) (room e)))
 
 returns-3 : tie.Need-returns-3
 returns-3 c =
