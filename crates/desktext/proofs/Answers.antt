@@ -31,6 +31,7 @@ use Rattle.pages.proofs.Call.{value-not-refused, pages-long}
 use Rattle.pages.proofs.Printed.{pages-most}
 use Rattle.desktext.specs.Printed.{componentOf}
 use Rattle.desktext.specs.Channel.{TextChannel, channel, none, channelIn, textAnswer, rowAfter, vectorsAfter}
+use Rattle.desktext.specs.Work.{Given}
 use Rattle.desktext.specs.Desk.{fieldBytes, viewOf, planAnswer, channelAnswer, deskAnswer}
 use Rattle.desktext.specs.declared.View.{View}
 use Rattle.desktext.specs.declared.View.the-variants.{WithField, OnPages}
@@ -71,87 +72,93 @@ zeros-front k n f h u =
     ap (λ (z : List ℕ). take n (bytesWith z 0 f)) (sym r) ∙ ap (λ (m : ℕ). take m (bytesWith (s ++ t) 0 f)) (sym l) ∙ with-front s t f (omega arith)
 
 -- ---- the planner's answer
-module _ (row : List ℕ) (start end : ℕ) (x : List Float) (r : Planned) (is : r ≡ planned row start end x) where
-  abbrev p : Plan
-  p = r .plan
-
-  pub plan-refused : (v : View) → (r .refusal ≡ 0 → ⊥) → refusedText (r .refusal) ≡ planAnswer v row start end x
+module _ (v : View) (row : List ℕ) (start end : ℕ) (x : List Float) (r : Planned) (is : r ≡ planned row start end x) where
+  pub plan-refused : (r .refusal ≡ 0 → ⊥) → refusedText (r .refusal) ≡ planAnswer v row start end x
   unfolding planAnswer
-  plan-refused v n = rw (sym is, ne-eqb (r .refusal) 0 n)
+  plan-refused n = rw (sym is, ne-eqb (r .refusal) 0 n)
 
-  module _ (given : r .refusal ≡ 0) where
-    planned-given : planned row start end x .refusal ≡ 0
-    planned-given = rw (sym is) given
+  pub plan-shown : r .refusal ≡ 0 → viewOf v (r .plan) row start end x ≡ planAnswer v row start end x
+  unfolding planAnswer
+  plan-shown z = rw (sym is, z)
 
-    pub few-gains : p .count ≤ 256
-    few-gains = rw is (fits-few (planned row start end x .plan) row start end x (within row start end x planned-given) (fits row start end x planned-given))
+  pub is-given : r .refusal ≡ 0 → Given (r .plan) row start end x
+  is-given z = record { no-refusal = ap (λ (q : Planned). q .refusal) (sym is) ∙ z; plan-is = ap (λ (q : Planned). q .plan) is }
 
-    -- ---- its field
-    field-long : length (fieldOf p row start end x) ≡ totalOf p
-    field-long = rw is (long-field row start end x planned-given)
+-- ---- its plan
+module _ (p : Plan) (row : List ℕ) (start end : ℕ) (x : List Float) (given : Given p row start end x) where
+  abbrev is : p ≡ planned row start end x .plan
+  is = given .plan-is
 
-    pub few-bits : totalOf p ≤ 31152
-    few-bits = rw is (bits-few row start end x planned-given)
+  abbrev planned-given : planned row start end x .refusal ≡ 0
+  planned-given = given .no-refusal
 
-    -- 8,192 bytes hold it
-    module _ (room : List ℕ) (zeros : room ≡ replicate 8192 0) where
-      long : length room ≡ 8192
-      long = ap length zeros ∙ length-replicate {A = ℕ} 8192 0
+  pub few-gains : p .count ≤ 256
+  few-gains = rw is (fits-few (planned row start end x .plan) row start end x (within row start end x planned-given) (fits row start end x planned-given))
 
-      is-written : (channelWrite p row start end x room 0 ≡ Done (posOf (0 + totalOf p))) × (channelWritten p row start end x room 0 ≡ bytesWith room 0 (fieldOf p row start end x))
-      is-written =
-          let f = bits-few row start end x planned-given in
-          let l = long in
-          rw is (field-written row start end x planned-given room 0 (omega arith))
+  -- ---- its field
+  field-long : length (fieldOf p row start end x) ≡ totalOf p
+  field-long = rw is (long-field row start end x planned-given)
 
-      pub never-refused : (w : ChannelWrite) (k : ℕ) → w ≡ channelWrite p row start end x room 0 → w ≡ ChannelWrite.Refused k → ⊥
-      never-refused w k e f = no-write (posOf (0 + totalOf p)) k (sym (is-written .0) ∙ sym e ∙ f)
-        where
-          no-write : (q : BitPos) (k : ℕ) → Done q ≡ ChannelWrite.Refused k → ⊥
-          no-write q k e = let z : _≡_ {A = ℕ} 0 1 = cc in omega arith
+  pub few-bits : totalOf p ≤ 31152
+  few-bits = rw is (bits-few row start end x planned-given)
 
-      module _ (after : List ℕ) (put : after ≡ channelWritten p row start end x room 0) where
-        pub bytes-fit : (totalOf p + 7) / 8 ≤ length after
-        bytes-fit =
-            let f = few-bits in
-            let l : length after ≡ 8192 = ap length (put ∙ is-written .1) ∙ length-with room 0 (fieldOf p row start end x) ∙ long in
-            omega arith
+  -- 8,192 bytes hold it
+  module _ (room : List ℕ) (zeros : room ≡ replicate 8192 0) where
+    long : length room ≡ 8192
+    long = ap length zeros ∙ length-replicate {A = ℕ} 8192 0
 
-        pub plan-given : planText p (take ((totalOf p + 7) / 8) after) ≡ planAnswer WithField row start end x
-        unfolding planAnswer
-        plan-given =
-            let f = few-bits in
-            let n = (totalOf p + 7) / 8 in
-            let bs = fieldOf p row start end x in
-            let l = field-long in
-            let b : take n after ≡ fieldBytes bs =
-            ap (take n) (put ∙ is-written .1 ∙ ap (λ (z : List ℕ). bytesWith z 0 bs) zeros)
-            ∙ zeros-front 8192 n bs (omega arith) (omega arith) ∙ ap (λ (m : ℕ). bytesWith (replicate ((m + 7) / 8) 0) 0 bs) (sym l) in
-            rw (sym is, given, b)
+    is-written : (channelWrite p row start end x room 0 ≡ Done (posOf (0 + totalOf p))) × (channelWritten p row start end x room 0 ≡ bytesWith room 0 (fieldOf p row start end x))
+    is-written =
+        let f = bits-few row start end x planned-given in
+        let l = long in
+        rw is (field-written row start end x planned-given room 0 (omega arith))
 
-    -- ---- its pages: the output holds them
-    no-cause : planCause p row start end x ≡ 0
-    no-cause = rw is (sym (plan-cause-fit (planned row start end x .plan) row start end x true (sym (refusal-is row start end x) ∙ planned-given) (sym (fits row start end x planned-given))))
+    pub never-refused : (w : ChannelWrite) (k : ℕ) → w ≡ channelWrite p row start end x room 0 → w ≡ ChannelWrite.Refused k → ⊥
+    never-refused w k e f = no-write (posOf (0 + totalOf p)) k (sym (is-written .0) ∙ sym e ∙ f)
+      where
+        no-write : (q : BitPos) (k : ℕ) → Done q ≡ ChannelWrite.Refused k → ⊥
+        no-write q k e = let z : _≡_ {A = ℕ} 0 1 = cc in omega arith
 
-    pub few-pages : pagesLength start end ≤ 6500
-    few-pages = pages-most p row start end x no-cause
+    module _ (after : List ℕ) (put : after ≡ channelWritten p row start end x room 0) where
+      pub bytes-fit : (totalOf p + 7) / 8 ≤ length after
+      bytes-fit =
+          let f = few-bits in
+          let l : length after ≡ 8192 = ap length (put ∙ is-written .1) ∙ length-with room 0 (fieldOf p row start end x) ∙ long in
+          omega arith
 
-    module _ (out : List ℕ) (long : 32768 ≤ length out) where
-      is-printed : (pagesPrint p row start end x out ≡ SizeResult.Value (pagesLength start end)) × (pagesPrinted p row start end x out ≡ splice out 0 (pagesText p row start end x))
-      unfolding pagesPrint pagesPrinted pagesCause
-      is-printed = let m = few-pages in rw (no-cause, le-leb (pagesLength start end) (length out) (omega arith)) (refl, refl)
+      pub plan-given : planText p (take ((totalOf p + 7) / 8) after) ≡ viewOf WithField p row start end x
+      plan-given =
+          let f = few-bits in
+          let n = (totalOf p + 7) / 8 in
+          let bs = fieldOf p row start end x in
+          let l = field-long in
+          let b : take n after ≡ fieldBytes bs =
+          ap (take n) (put ∙ is-written .1 ∙ ap (λ (z : List ℕ). bytesWith z 0 bs) zeros)
+          ∙ zeros-front 8192 n bs (omega arith) (omega arith) ∙ ap (λ (m : ℕ). bytesWith (replicate ((m + 7) / 8) 0) 0 bs) (sym l) in
+          rw b
 
-      pub pages-never-refused : (w : SizeResult) (k : ℕ) → w ≡ pagesPrint p row start end x out → w ≡ SizeResult.Refused k → ⊥
-      pages-never-refused w k e f = value-not-refused (pagesLength start end) k (sym (is-printed .0) ∙ sym e ∙ f)
+  -- ---- its pages: the output holds them
+  no-cause : planCause p row start end x ≡ 0
+  no-cause = rw is (sym (plan-cause-fit (planned row start end x .plan) row start end x true (sym (refusal-is row start end x) ∙ planned-given) (sym (fits row start end x planned-given))))
 
-      pub pages-given : (w : SizeResult) (n : ℕ) (after : List ℕ) → w ≡ pagesPrint p row start end x out → w ≡ SizeResult.Value n → after ≡ pagesPrinted p row start end x out
-          → (n ≡ length (planAnswer OnPages row start end x)) × (after ≡ splice out 0 (planAnswer OnPages row start end x))
-      unfolding planAnswer
-      pages-given w n after e f g =
-          let i = is-printed in
-          let z : SizeResult.Value n ≡ SizeResult.Value (pagesLength start end) = sym f ∙ e ∙ i .0 in
-          let k : n ≡ pagesLength start end = cc in
-          rw (sym is, given) (k ∙ sym (pages-long p row start end x), g ∙ i .1)
+  pub few-pages : pagesLength start end ≤ 6500
+  few-pages = pages-most p row start end x no-cause
+
+  module _ (out : List ℕ) (long : 32768 ≤ length out) where
+    is-printed : (pagesPrint p row start end x out ≡ SizeResult.Value (pagesLength start end)) × (pagesPrinted p row start end x out ≡ splice out 0 (pagesText p row start end x))
+    unfolding pagesPrint pagesPrinted pagesCause
+    is-printed = let m = few-pages in rw (no-cause, le-leb (pagesLength start end) (length out) (omega arith)) (refl, refl)
+
+    pub pages-never-refused : (w : SizeResult) (k : ℕ) → w ≡ pagesPrint p row start end x out → w ≡ SizeResult.Refused k → ⊥
+    pages-never-refused w k e f = value-not-refused (pagesLength start end) k (sym (is-printed .0) ∙ sym e ∙ f)
+
+    pub pages-given : (w : SizeResult) (n : ℕ) (after : List ℕ) → w ≡ pagesPrint p row start end x out → w ≡ SizeResult.Value n → after ≡ pagesPrinted p row start end x out
+        → (n ≡ length (viewOf OnPages p row start end x)) × (after ≡ splice out 0 (viewOf OnPages p row start end x))
+    pages-given w n after e f g =
+        let i = is-printed in
+        let z : SizeResult.Value n ≡ SizeResult.Value (pagesLength start end) = sym f ∙ e ∙ i .0 in
+        let k : n ≡ pagesLength start end = cc in
+        (k ∙ sym (pages-long p row start end x), g ∙ i .1)
 
 -- ---- it is never (refused 13), and it fits the output
 module _ (row : List ℕ) (start end : ℕ) (x : List Float) where
@@ -180,15 +187,15 @@ module _ (row : List ℕ) (start end : ℕ) (x : List Float) where
   view-fits WithField g =
       let p = planned row start end x .plan in
       let bs = fieldOf p row start end x in
-      let n = few-gains row start end x (planned row start end x) refl g in
-      let m = few-bits row start end x (planned row start end x) refl g in
-      let l = field-long row start end x (planned row start end x) refl g in
+      let n = few-gains (planned row start end x .plan) row start end x (record { no-refusal = g; plan-is = refl }) in
+      let m = few-bits (planned row start end x .plan) row start end x (record { no-refusal = g; plan-is = refl }) in
+      let l = field-long (planned row start end x .plan) row start end x (record { no-refusal = g; plan-is = refl }) in
       let t = min-le-left (p .count) (length (p .gains)) in
       let w : length (fieldBytes bs) ≡ (length bs + 7) / 8 = length-with (replicate ((length bs + 7) / 8) 0) 0 bs ∙ length-replicate _ 0 in
       let h = plan-text-fits p (fieldBytes bs) in
       omega (arith, length-take (p .count) (p .gains))
   view-fits OnPages g =
-      let m = few-pages row start end x (planned row start end x) refl g in
+      let m = few-pages (planned row start end x .plan) row start end x (record { no-refusal = g; plan-is = refl }) in
       let l = pages-long (planned row start end x .plan) row start end x in
       omega arith
 

@@ -4,6 +4,9 @@ use mathlib.Core.Path.{_≡_}
 use mathlib.Core.List.{List, [], _++_, map}
 use mathlib.Core.Bool.{Bool, cond}
 use lib.ListN.{length, take, drop, getD}
+use lib.Ieee.{Float}
+use Rattle.planner.specs.declared.Plan.{Plan}
+use Rattle.planner.specs.Planning.{planned}
 use Rattle.desktext.specs.Spelling.{largest, lastNumber}
 use Rattle.desktext.specs.Text.{Seen, seen, unseen, got, malformed, after, rest, tokens, closing}
 use Rattle.desktext.specs.Channel.{Part, part, missing, vectors, TextChannel, channel, none}
@@ -103,3 +106,9 @@ fitting ts Unsound = Unit {0}
 pub record Checks (ts : List ℕ) (there : TextChannel) (r : Checked) : Type 0 where
   pub shown : checkedIn ts r ≡ there
   pub fits : fitting ts r
+
+-- ---- the answer
+-- the planner gives this plan
+pub record Given (p : Plan) (row : List ℕ) (start end : ℕ) (x : List Float) : Type 0 where
+  pub no-refusal : planned row start end x .refusal ≡ 0
+  pub plan-is : p ≡ planned row start end x .plan

@@ -4,11 +4,12 @@ ghost use mathlib.Core.Path.{_≡_};
 ghost use lib.ListN.{length, take, replicate};
 ghost use Rattle.bits.specs.Bits.{splice};
 ghost use Rattle.desktext.specs.Channel.{channelIn, textAnswer, rowAfter, vectorsAfter};
-ghost use Rattle.desktext.specs.Desk.{planAnswer, deskAnswer};
-ghost use Rattle.desktext.specs.Work.{longest};
+ghost use Rattle.desktext.specs.Desk.{viewOf, planAnswer, deskAnswer};
+ghost use Rattle.desktext.specs.Work.{longest, Given};
 ghost use Rattle.desktext.specs.declared.View.the-variants.{WithField, OnPages};
 use answers::SizeResult;
 use bits::BitPos;
+use planner::Plan;
 use writer::ChannelWrite;
 
 mod channels;
@@ -99,10 +100,10 @@ pub fn read_text(text: &[u8], row: &mut [u8; 256], vectors: &mut [f32; 1536]) ->
     read_with(text, &mut *row, &mut *vectors, &mut work)
 }
 
-// The plan of the bins start to end - 1 with its field, or its refusal, goes to the front of the output as text.
-// Returns how many bytes that is.
+// The planner's plan with its field goes to the front of the output as text. Returns how many bytes that is.
 fn print_with_field(
     out: &mut [u8],
+    plan: Plan,
     row: &[u8],
     start: usize,
     end: usize,
@@ -111,14 +112,10 @@ fn print_with_field(
 ) -> usize
     requires { ⌜ 32768 ≤ length (now out) ⌝ }
     requires { ⌜ now field ≡ replicate 8192 0 ⌝ }
-    ensures { λ r. ⌜ r ≡ length (planAnswer WithField (now (row .entry)) start end (now (x .entry))) ⌝ }
-    ensures { λ r. ⌜ now (out .exit) ≡ splice (now (out .entry)) 0 (planAnswer WithField (now (row .entry)) start end (now (x .entry))) ⌝ }
+    requires { ⌜ Given plan (now row) start end (now x) ⌝ }
+    ensures { λ r. ⌜ r ≡ length (viewOf WithField plan (now (row .entry)) start end (now (x .entry))) ⌝ }
+    ensures { λ r. ⌜ now (out .exit) ≡ splice (now (out .entry)) 0 (viewOf WithField plan (now (row .entry)) start end (now (x .entry))) ⌝ }
 {
-    let planned = planner::plan_aht_channel(row, start, end, x);
-    if planned.refusal != 0 {
-        return plantext::print_refused(out, planned.refusal);
-    }
-    let plan = planned.plan;
     let p = BitPos { byte: 0, bit: 0 };
     let w = writer::write_aht_channel(plan, row, start, end, x, &mut *field, p);
     match w {
@@ -131,23 +128,53 @@ fn print_with_field(
 }
 
 // The same on pages.
-fn print_on_pages(out: &mut [u8], row: &[u8], start: usize, end: usize, x: &[f32]) -> usize
+fn print_on_pages(
+    out: &mut [u8],
+    plan: Plan,
+    row: &[u8],
+    start: usize,
+    end: usize,
+    x: &[f32],
+) -> usize
     requires { ⌜ 32768 ≤ length (now out) ⌝ }
-    ensures { λ r. ⌜ r ≡ length (planAnswer OnPages (now (row .entry)) start end (now (x .entry))) ⌝ }
-    ensures { λ r. ⌜ now (out .exit) ≡ splice (now (out .entry)) 0 (planAnswer OnPages (now (row .entry)) start end (now (x .entry))) ⌝ }
+    requires { ⌜ Given plan (now row) start end (now x) ⌝ }
+    ensures { λ r. ⌜ r ≡ length (viewOf OnPages plan (now (row .entry)) start end (now (x .entry))) ⌝ }
+    ensures { λ r. ⌜ now (out .exit) ≡ splice (now (out .entry)) 0 (viewOf OnPages plan (now (row .entry)) start end (now (x .entry))) ⌝ }
 {
-    let planned = planner::plan_aht_channel(row, start, end, x);
-    if planned.refusal != 0 {
-        return plantext::print_refused(out, planned.refusal);
-    }
-    let printed = pages::print_pages(planned.plan, row, start, end, x, &mut *out);
+    let printed = pages::print_pages(plan, row, start, end, x, &mut *out);
     match printed {
         SizeResult::Refused(k) => plantext::print_refused(out, k),
         SizeResult::Value(n) => n,
     }
 }
 
-// The same, as it is to be seen, of the first n numbers of a row, with their vectors.
+// The plan of the bins start to end - 1, as it is to be seen, or its refusal.
+fn print_channel(
+    view: View,
+    out: &mut [u8],
+    row: &[u8],
+    start: usize,
+    end: usize,
+    x: &[f32],
+    field: &mut [u8],
+) -> usize
+    requires { ⌜ 32768 ≤ length (now out) ⌝ }
+    requires { ⌜ now field ≡ replicate 8192 0 ⌝ }
+    ensures { λ r. ⌜ r ≡ length (planAnswer view (now (row .entry)) start end (now (x .entry))) ⌝ }
+    ensures { λ r. ⌜ now (out .exit) ≡ splice (now (out .entry)) 0 (planAnswer view (now (row .entry)) start end (now (x .entry))) ⌝ }
+{
+    let planned = planner::plan_aht_channel(row, start, end, x);
+    if planned.refusal != 0 {
+        return plantext::print_refused(out, planned.refusal);
+    }
+    let plan = planned.plan;
+    match view {
+        View::WithField => print_with_field(out, plan, row, start, end, x, field),
+        View::OnPages => print_on_pages(out, plan, row, start, end, x),
+    }
+}
+
+// The same of the first n numbers of a row, with their vectors.
 fn print_front(
     view: View,
     out: &mut [u8],
@@ -164,12 +191,7 @@ fn print_front(
     ensures { λ r. ⌜ r ≡ length (planAnswer view (take n (now (row .entry))) start end (take (6 * n) (now (x .entry)))) ⌝ }
     ensures { λ r. ⌜ now (out .exit) ≡ splice (now (out .entry)) 0 (planAnswer view (take n (now (row .entry))) start end (take (6 * n) (now (x .entry)))) ⌝ }
 {
-    let row = &row[..n];
-    let x = &x[..6 * n];
-    match view {
-        View::WithField => print_with_field(out, row, start, end, x, field),
-        View::OnPages => print_on_pages(out, row, start, end, x),
-    }
+    print_channel(view, out, &row[..n], start, end, &x[..6 * n], field)
 }
 
 // The desk's answer, with room to work in.

@@ -5,17 +5,10 @@ use borrow.Author.Needs.{needs}
 use Rattle.desktext.proofs.print_front.Statement.{statement}
 use Rattle.desktext.proofs.print_front.Tie as tie
 
-returns : tie.Need-returns
-returns c = let p = c .before .before .before .before in rw (p .before .before .before .enum-told .given .1) (p .print-with-field .ensures)
-
-returns-2 : tie.Need-returns-2
-returns-2 c = let p = c .before .before in rw (p .before .before .enum-told2 .given .1) (p .print-on-pages .ensures)
-
 pub print-front-spec : {M : Type 1} → statement M
 print-front-spec =
     tie.close (tie.spec
-    (λ c. sym (length-take-le _ _ (c .before .before .before .before .before .pre .1 .1 .0)))
+    (λ c. sym (length-take-le _ _ (c .before .before .before .before .before .before .pre .1 .1 .0)))
     (λ c. search needs)
-    (λ c. sym (length-take-le _ _ (c .before .before .before .before .before .before .pre .1 .1 .1)))
-    (λ c. search needs) (λ c κs. search needs) (λ c. search needs) (λ c κs. search needs) (λ c. search needs)
-    (λ c. search needs) returns (λ c. search needs) returns-2)
+    (λ c. sym (length-take-le _ _ (c .before .before .before .before .before .before .before .pre .1 .1 .1)))
+    (λ c κs. search needs) (λ c. search needs) (λ c. search needs) (λ c. search needs))

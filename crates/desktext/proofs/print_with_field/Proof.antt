@@ -7,30 +7,17 @@ use denote.Ref.{now}
 use lib.ListN.{length}
 use lib.Seq.{length-take-le}
 use Rattle.bits.specs.Bits.{splice}
-use Rattle.desktext.specs.declared.View.the-variants.{WithField}
-use Rattle.desktext.proofs.Answers.{plan-refused, few-gains, few-bits, never-refused, bytes-fit, plan-given}
+use Rattle.desktext.proofs.Answers.{few-gains, few-bits, never-refused, bytes-fit, plan-given}
 use Rattle.desktext.proofs.print_with_field.Statement.{statement}
 use Rattle.desktext.proofs.print_with_field.Tie as tie
-
-returns : tie.Need-returns
-returns c =
-    let w = c .before .before in
-    let i = w .before .before in
-    let g = i .before .before in
-    let a = g .before .before .before .before .before .args in
-    let e = plan-refused (now (a .row)) (a .start) (a .end) (now (a .x)) (g .plan-aht-channel .result) (g .plan-aht-channel .ensures) WithField (i .if1 .taken) in
-    let u = w .print-refused .ensures in
-    (u .0 ∙ ap length e, u .1 ∙ ap (splice (now (a .out)) 0) e)
 
 slice-reshare-prefix-print-plan : tie.Need-slice-reshare-prefix-print-plan
 slice-reshare-prefix-print-plan c =
     let w = c .before .before .before .before .before .before in
-    let i = w .before .before .before in
-    let g = i .before .before in
-    let s = g .before .before .before .before .before in
+    let s = w .before .before .before .before .before .before in
     let a = s .args in
     let f =
-    bytes-fit (now (a .row)) (a .start) (a .end) (now (a .x)) (g .plan-aht-channel .result) (g .plan-aht-channel .ensures) (i .if1 .left) (now (a .field)) (s .pre .1)
+    bytes-fit (a .plan) (now (a .row)) (a .start) (a .end) (now (a .x)) (s .pre .1 .1) (now (a .field)) (s .pre .1 .0)
     (w .write-aht-channel .last .1 .1 .1 .1 .1 .0) (w .write-aht-channel .ensures .1) in
     omega arith
 
@@ -39,44 +26,36 @@ slice-aggregate-print-plan c = sym (length-take-le _ _ (slice-reshare-prefix-pri
 
 print-plan-requires : tie.Need-print-plan-requires
 print-plan-requires c κs =
-    let i = c .before .before .before .before .before .before .before .before .before .before in
-    let g = i .before .before in
-    let s = g .before .before .before .before .before in
+    let s = c .before .before .before .before .before .before .before .before .before .before .before .before .before in
     let a = s .args in
-    let r = g .plan-aht-channel .result in
-    let b = few-bits (now (a .row)) (a .start) (a .end) (now (a .x)) r (g .plan-aht-channel .ensures) (i .if1 .left) in
+    let b = few-bits (a .plan) (now (a .row)) (a .start) (a .end) (now (a .x)) (s .pre .1 .1) in
     let l = slice-aggregate-print-plan c in
-    (few-gains (now (a .row)) (a .start) (a .end) (now (a .x)) r (g .plan-aht-channel .ensures) (i .if1 .left), omega arith, le-trans (le-of-eq (sym l)) (omega arith), s .pre .0)
+    (few-gains (a .plan) (now (a .row)) (a .start) (a .end) (now (a .x)) (s .pre .1 .1), omega arith, le-trans (le-of-eq (sym l)) (omega arith), s .pre .0)
+
+returns : tie.Need-returns
+returns c =
+    let k = c .before .before .before .before in
+    let w = k .before .before .before .before .before in
+    let s = w .before .before .before .before .before .before in
+    let a = s .args in
+    absurd (never-refused (a .plan) (now (a .row)) (a .start) (a .end) (now (a .x)) (s .pre .1 .1) (now (a .field)) (s .pre .1 .0)
+    (w .write-aht-channel .result) _ (w .write-aht-channel .ensures .0) (k .before .w .given .1))
 
 returns-2 : tie.Need-returns-2
 returns-2 c =
-    let k = c .before .before .before .before in
-    let w = k .before .before .before .before .before in
-    let i = w .before .before .before in
-    let g = i .before .before in
-    let s = g .before .before .before .before .before in
-    let a = s .args in
-    absurd (never-refused (now (a .row)) (a .start) (a .end) (now (a .x)) (g .plan-aht-channel .result) (g .plan-aht-channel .ensures) (i .if1 .left) (now (a .field)) (s .pre .1)
-    (w .write-aht-channel .result) _ (w .write-aht-channel .ensures .0) (k .before .w .given .1))
-
-returns-3 : tie.Need-returns-3
-returns-3 c =
     let t = c .before .before in
     let w = t .before .before .before .before .before .before .before .before in
-    let i = w .before .before .before in
-    let g = i .before .before in
-    let s = g .before .before .before .before .before in
+    let s = w .before .before .before .before .before .before in
     let a = s .args in
     let e =
-    plan-given (now (a .row)) (a .start) (a .end) (now (a .x)) (g .plan-aht-channel .result) (g .plan-aht-channel .ensures) (i .if1 .left) (now (a .field)) (s .pre .1)
+    plan-given (a .plan) (now (a .row)) (a .start) (a .end) (now (a .x)) (s .pre .1 .1) (now (a .field)) (s .pre .1 .0)
     (w .write-aht-channel .last .1 .1 .1 .1 .1 .0) (w .write-aht-channel .ensures .1) in
     let u = t .print-plan .ensures in
     (u .0 ∙ ap length e, u .1 ∙ ap (splice (now (a .out)) 0) e)
 
 pub print-with-field-spec : {M : Type 1} → statement M
 print-with-field-spec =
-    tie.close (tie.spec (λ c κs. search needs) (λ c κs. search needs) (λ c. search needs) returns
-    (λ c κs. search needs) (λ c. search needs) (λ c κs. search needs) (λ c. search needs) (λ c. search needs)
-    (λ c. search needs) (λ c. search needs) slice-reshare-prefix-print-plan slice-aggregate-print-plan
-    print-plan-requires (λ c. search needs) (λ c. search needs) returns-2 (λ c. search needs) (λ c. search needs)
-    returns-3)
+    tie.close (tie.spec (λ c κs. search needs) (λ c. search needs) (λ c κs. search needs) (λ c. search needs)
+    (λ c. search needs) (λ c. search needs) (λ c. search needs) slice-reshare-prefix-print-plan
+    slice-aggregate-print-plan print-plan-requires (λ c. search needs) (λ c. search needs) returns
+    (λ c. search needs) (λ c. search needs) returns-2)
