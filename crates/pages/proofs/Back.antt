@@ -12,7 +12,7 @@ use lib.ListN.{length, getD, take, drop, List·getD-append}
 use lib.Seq.{take-at, take-all, drop-append-add, getD-drop}
 use Rattle.plantext.specs.PlanText.{decimal, decimalValue}
 use Rattle.pages.specs.Pages.{spaces, aligned, spread, gainText, cellText}
-use Rattle.pages.specs.Reading.{numberIn, gkIn, cellIn, blank}
+use Rattle.pages.specs.Reading.{numberBehind, gkIn, cellIn, blank}
 use Rattle.pages.specs.declared.Cell.{Cell}
 use Rattle.pages.proofs.Cells.{aligned-long, gain-long}
 
@@ -54,17 +54,17 @@ decimal-back (suc places) n h = let p = pow-suc 10 places in go (leb 10 n) (deci
     go true e = value-last 0 (n % 10) (decimal places (n / 10)) ∙ rw e (omega arith)
     go false e = let z : 0 * 10 + n ≡ n = omega arith in value-last 0 n [] ∙ z
 
-number-spaces : (n : ℕ) (s : List ℕ) → numberIn (spaces n ++ s) ≡ numberIn s
-unfolding numberIn
+number-spaces : (n : ℕ) (s : List ℕ) → numberBehind (spaces n ++ s) ≡ numberBehind s
+unfolding numberBehind
 number-spaces zero s = refl
 number-spaces (suc n) s = number-spaces n s
 
-number-digits : (s : List ℕ) → AtLeast 48 s → numberIn s ≡ decimalValue 0 s
-unfolding numberIn decimalValue
+number-digits : (s : List ℕ) → AtLeast 48 s → numberBehind s ≡ decimalValue 0 s
+unfolding numberBehind decimalValue
 number-digits [] p = refl
 number-digits (c ∷ s) p = let l = p .0 in rw (ne-eqb c 32 (λ e. omega arith))
 
-aligned-back : (places n : ℕ) → n < 10 ^ places → numberIn (aligned places n) ≡ n
+aligned-back : (places n : ℕ) → n < 10 ^ places → numberBehind (aligned places n) ≡ n
 unfolding aligned
 aligned-back places n h =
     number-spaces (places - length (decimal places n)) (decimal places n) ∙ number-digits (decimal places n) (digits-least places n) ∙ decimal-back places n h
@@ -75,7 +75,7 @@ cut-at : (n m : ℕ) (a s : List ℕ) → length a ≡ n → drop (n + m) (a ++ 
 cut-at n m a s e = rw (← e) (drop-append-add a s m)
 
 gain-back : (g : ℕ) → g < 10 → gkIn (gainText g) ≡ g
-unfolding gainText aligned decimal numberIn decimalValue
+unfolding gainText aligned decimal numberBehind decimalValue
 gain-back g h = go (eqb g 0) refl
   where
     go : (t : Bool) → eqb g 0 ≡ t → gkIn (cond t (45 ∷ []) (aligned 1 g)) ≡ g
@@ -119,10 +119,10 @@ cell-back c hb hh hg hn =
     let d₄ : drop 4 s ≡ b ++ (32 ∷ (g ++ (32 ∷ d))) = cut-at 3 1 a _ la in
     let d₇ : drop 7 s ≡ g ++ (32 ∷ d) = cut-at 3 4 a _ la ∙ cut-at 2 1 b _ lb in
     let d₉ : drop 9 s ≡ d = cut-at 3 6 a _ la ∙ cut-at 2 3 b _ lb ∙ cut-at 1 1 g _ lg in
-    let e₁ : numberIn (take 3 s) ≡ c .bin = ap numberIn (take-at a _ 3 la) ∙ aligned-back 3 (c .bin) hb in
-    let e₂ : numberIn (take 2 (drop 4 s)) ≡ c .hebap = ap (λ (t : List ℕ). numberIn (take 2 t)) d₄ ∙ ap numberIn (take-at b _ 2 lb) ∙ aligned-back 2 (c .hebap) hh in
+    let e₁ : numberBehind (take 3 s) ≡ c .bin = ap numberBehind (take-at a _ 3 la) ∙ aligned-back 3 (c .bin) hb in
+    let e₂ : numberBehind (take 2 (drop 4 s)) ≡ c .hebap = ap (λ (t : List ℕ). numberBehind (take 2 t)) d₄ ∙ ap numberBehind (take-at b _ 2 lb) ∙ aligned-back 2 (c .hebap) hh in
     let e₃ : gkIn (take 1 (drop 7 s)) ≡ c .gk = ap (λ (t : List ℕ). gkIn (take 1 t)) d₇ ∙ ap gkIn (take-at g _ 1 lg) ∙ gain-back (c .gk) hg in
-    let e₄ : numberIn (take 3 (drop 9 s)) ≡ c .bits = ap (λ (t : List ℕ). numberIn (take 3 t)) d₉ ∙ ap numberIn (take-all 3 d (le-of-eq ld)) ∙ aligned-back 3 (c .bits) hn in
+    let e₄ : numberBehind (take 3 (drop 9 s)) ≡ c .bits = ap (λ (t : List ℕ). numberBehind (take 3 t)) d₉ ∙ ap numberBehind (take-all 3 d (le-of-eq ld)) ∙ aligned-back 3 (c .bits) hn in
     rw (e₁, e₂, e₃, e₄)
 
 -- It is not blank.

@@ -9,21 +9,21 @@ use Rattle.pages.specs.declared.Cell.{Cell}
 use Rattle.pages.specs.Pages.{placeAt}
 
 -- the number that stands behind spaces, to the last character
-unfoldable pub numberIn : List ℕ → ℕ
-numberIn [] = 0
-numberIn (c ∷ s) = cond (eqb c 32) (numberIn s) (decimalValue 0 (c ∷ s))
+unfoldable pub numberBehind : List ℕ → ℕ
+numberBehind [] = 0
+numberBehind (c ∷ s) = cond (eqb c 32) (numberBehind s) (decimalValue 0 (c ∷ s))
 
 -- Gk, and 0 for a dash
 abbrev pub gkIn : List ℕ → ℕ
-gkIn s = cond (eqb (getD s 0 0) 45) 0 (numberIn s)
+gkIn s = cond (eqb (getD s 0 0) 45) 0 (numberBehind s)
 
 -- the four parts of a cell, by their columns
 unfoldable pub cellIn : List ℕ → Cell
 cellIn s = record {
-  bin = numberIn (take 3 s);
-  hebap = numberIn (take 2 (drop 4 s));
+  bin = numberBehind (take 3 s);
+  hebap = numberBehind (take 2 (drop 4 s));
   gk = gkIn (take 1 (drop 7 s));
-  bits = numberIn (take 3 (drop 9 s));
+  bits = numberBehind (take 3 (drop 9 s));
 }
 
 -- the twelve characters of the place i

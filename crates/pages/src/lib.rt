@@ -190,6 +190,7 @@ pub fn print_pages(
     if cause != 0 {
         return SizeResult::Refused(cause);
     }
+    // A page of 50 lines for each 200 bins begun.
     let lines = 50 * ((end - start + 199) / 200);
     if out.len() < 65 * lines {
         return SizeResult::Refused(answers::OUTPUT_FULL);
