@@ -1,5 +1,6 @@
 // Why a call refuses, by name, and the answers that several crates share. A refusal's number never changes its
 // meaning; include/fathrugg.h has the same names for C.
+#![tactic(auto)]
 
 // no cause holds
 pub const NONE: u8 = 0;
@@ -31,14 +32,14 @@ pub const OUT_OF_RANGE: u8 = 12;
 pub const TEXT: u8 = 13;
 
 // A byte, or the number of the refusal.
-#[derive(Drop)]
+#[derive(Clone, Copy)]
 pub enum ByteResult {
     Value(u8),
     Refused(u8),
 }
 
 // A count or an index, or the number of the refusal.
-#[derive(Drop)]
+#[derive(Clone, Copy)]
 pub enum SizeResult {
     Value(usize),
     Refused(u8),

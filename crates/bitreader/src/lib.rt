@@ -1,6 +1,8 @@
 // A reader that keeps the bytes and the position of the next bit, as the Rust has it. The borrow checker covers no
 // function over such a struct, so new, read_u32 and read_three are proved by hand, and leave the work to covered ones.
 // Callers with a plain slice use read_three, or bits' BitPos, and need no proof by hand.
+#![tactic(auto)]
+
 ghost use Rattle.std.specs.Prelude.{◌≡◌};
 ghost use Rattle.bitreader.specs.Reads.{step_from, at_start, answered, read_on, all_three, three_from};
 
@@ -14,21 +16,21 @@ pub struct BitReader<'a> {
 }
 
 // What a reader's read_u32 answers, where the Rust has a Result: the number, or the number of the refusal.
-#[derive(Drop)]
+#[derive(Clone, Copy)]
 pub enum U32Result {
     Value(u32),
     Refused(u8),
 }
 
 // An answer and the position behind it, which a refusal leaves as it was.
-#[derive(Drop)]
+#[derive(Clone, Copy)]
 pub struct Step {
     pub answer: U32Result,
     pub pos: BitPos,
 }
 
 // What read_three answers: the numbers and the position behind them, or the first refusal.
-#[derive(Drop)]
+#[derive(Clone, Copy)]
 pub enum ThreeResult {
     Values(u32, u32, u32, BitPos),
     Refused(u8),

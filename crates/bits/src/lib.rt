@@ -1,24 +1,26 @@
 // Bits of bytes, most significant first: a position by value, numbers read there and written there.
+#![tactic(auto)]
+
 ghost use Rattle.std.specs.Prelude.{◌≡◌, ◌+◌, ◌*◌, ◌<◌, ◌≤◌, ◌^◌, leb, length, take, drop, get_or};
 ghost use Rattle.bits.specs.Bits.{bits_of, bits_n, number_of, splice, bit_at, pos_of, read_u32, write_u32, written};
 ghost use Rattle.bits.specs.Work.{byte_with};
 
 // The bit 8 * byte + bit.
-#[derive(Drop)]
+#[derive(Clone, Copy)]
 pub struct BitPos {
     pub byte: usize,
     pub bit: u32,
 }
 
 // What read_u32 answers: the number and the advanced position, or the number of the refusal.
-#[derive(Drop)]
+#[derive(Clone, Copy)]
 pub enum BitRead {
     Number(u32, BitPos),
     Refused(u8),
 }
 
 // What write_u32 and readers into lent buffers answer: the advanced position, or the number of the refusal.
-#[derive(Drop)]
+#[derive(Clone, Copy)]
 pub enum BitMove {
     Done(BitPos),
     Refused(u8),

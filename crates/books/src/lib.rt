@@ -1,4 +1,6 @@
 // The vector quantiser over the seven books: vq_lookup and vq_search.
+#![tactic(auto)]
+
 ghost use Rattle.std.specs.Prelude.{◌≡◌, ◌||◌, ◌+◌, ◌*◌, ◌≤◌, ◌<◌, ◌^◌, pos, length, get_or};
 ghost use Rattle.std.specs.Float.Ieee.{lt};
 ghost use Rattle.std.specs.Float.{nan};
@@ -17,7 +19,7 @@ mod fractions;
 use answers::SizeResult;
 
 // The nearest vector so far and its distance.
-#[derive(Drop)]
+#[derive(Clone, Copy)]
 pub struct Nearest {
     pub best: usize,
     pub least: f32,

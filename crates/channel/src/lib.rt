@@ -1,4 +1,6 @@
 // The layout of a channel's field (specs/), and what planner, writer and reader ask of a row.
+#![tactic(auto)]
+
 ghost use Rattle.std.specs.Prelude.{◌≡◌, cond, ◌≤◌, length, get_or};
 ghost use Rattle.gains.specs.Gains.{active};
 ghost use Rattle.channel.specs.Bins.{some_over};

@@ -1,4 +1,5 @@
 // The desk: a channel as text on standard input, its plan with the field as text on standard output.
+#![tactic(auto)]
 use desktext::View;
 
 fn main() {

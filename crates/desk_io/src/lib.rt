@@ -1,11 +1,12 @@
 // The desk's programs: a channel as text on standard input, the answer on standard output. The work is desktext's.
+#![tactic(auto)]
 ghost use Rattle.std.specs.Prelude.{◌≤◌};
 
 use desktext::View;
 use libc::{STDERR_FILENO, STDIN_FILENO, STDOUT_FILENO};
 
 // How many bytes standard input gave, or that it cannot be read.
-#[derive(Drop)]
+#[derive(Clone, Copy)]
 pub enum Input {
     Bytes(usize),
     Failed,

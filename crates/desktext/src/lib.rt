@@ -1,4 +1,6 @@
 // The desk text: a channel as nested brackets. docs/FORMAT.md, Desk text.
+#![tactic(auto)]
+
 ghost use Rattle.std.specs.Prelude.{◌≤◌, ◌*◌, ◌≡◌, length, take, replicate};
 ghost use Rattle.bits.specs.Bits.{splice};
 ghost use Rattle.desktext.specs.Channel.{channel_in, text_answer, row_after, vectors_after};
@@ -16,42 +18,42 @@ mod numbers;
 mod tokens;
 
 // A token and the place after it, or nothing of the kind.
-#[derive(Drop)]
+#[derive(Clone, Copy)]
 pub enum Found {
     At(u32, usize),
     Absent,
 }
 
 // The place after what was read and the count of tokens, or a malformed text.
-#[derive(Drop)]
+#[derive(Clone, Copy)]
 pub enum Step {
     Next(usize, usize),
     Malformed,
 }
 
 // How many numbers a form has, or that it is not as it should be.
-#[derive(Drop)]
+#[derive(Clone, Copy)]
 pub enum Counted {
     Count(usize),
     Broken,
 }
 
 // The bins of a channel and how many numbers its row has, or that the tokens are no channel's.
-#[derive(Drop)]
+#[derive(Clone, Copy)]
 pub enum Checked {
     Sound(u32, u32, usize),
     Unsound,
 }
 
 // What a desk text holds: start and end of its bins and how many numbers the row has, or the refusal's number.
-#[derive(Drop)]
+#[derive(Clone, Copy)]
 pub enum DeskText {
     Channel(u32, u32, usize),
     Refused(u8),
 }
 
 // How a plan is printed: with its field, or on pages.
-#[derive(Drop)]
+#[derive(Clone, Copy)]
 pub enum View {
     WithField,
     OnPages,

@@ -1,4 +1,6 @@
 // Gain-adaptive quantisation: which bins have a gain, and the gain words of the field.
+#![tactic(auto)]
+
 ghost use Rattle.std.specs.Prelude.{◌≡◌, cond, ◌∷◌, [], ◌+◌, ◌*◌, ◌/◌, ◌≤◌, min, eqb, length, drop};
 ghost use Rattle.bits.specs.Bits.{bits_of, bit_at};
 ghost use Rattle.gains.specs.Gains.{active, coding_of, allowed_gain, gain_word_bits, endbap_for_gaqmod, gain_value, gaq_gain_value, gaq_sections, fill_gaqbin, gaqbin_after, endbap, gaqbin_of, word_bits, first_code, group_codes, group_of, word_codes, words_read, codes_from, read_gaq_gains, gains_after};
@@ -8,14 +10,14 @@ use answers::{ByteResult, SizeResult};
 use bits::{BitPos, BitRead};
 
 // What read_gaq_gains answers: how many codes it put out and the advanced position, or the number of the refusal.
-#[derive(Drop)]
+#[derive(Clone, Copy)]
 pub enum GainsResult {
     Codes(usize, BitPos),
     Refused(u8),
 }
 
 // How a bin is coded: not at all, by an index of its book, by six codes at Gk 1, or by six codes at a gain of its own.
-#[derive(Drop)]
+#[derive(Clone, Copy)]
 pub enum Coding {
     Nothing,
     Book,
@@ -229,7 +231,7 @@ fn put_code(out: &mut [u8], k: usize, code: u8) -> usize
 }
 
 // The three codes of a group word.
-#[derive(Drop)]
+#[derive(Clone, Copy)]
 pub struct GroupCodes {
     pub first: u8,
     pub second: u8,

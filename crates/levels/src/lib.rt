@@ -1,4 +1,6 @@
 // The levels of a scalar mantissa: its codes, and their f32 and exact values.
+#![tactic(auto)]
+
 ghost use Rattle.std.specs.Prelude.{◌≡◌, false, cond, not, ◌+◌, ◌-◌, ◌*◌, ◌<◌, ◌≤◌, ◌^◌, eqb, pos, nat_abs, ◌+ℤ◌, ◌*ℤ◌, length, get_or};
 ghost use Rattle.std.specs.Float.Ieee.{of_bits, nan_bits};
 ghost use Rattle.std.specs.Float.{binary32};
@@ -13,14 +15,14 @@ ghost use Rattle.levels.specs.Work.{remap_of, remap_by, scale_of, IsScale, row_o
 mod consts;
 
 // A code by its bits: a small one, or a large one (behind the tag at Gk 2 and 4; at Gk 1 every code is large).
-#[derive(Drop)]
+#[derive(Clone, Copy)]
 pub enum Code {
     Small(u32),
     Large(u32),
 }
 
 // The kind of a code and its f32 value.
-#[derive(Drop)]
+#[derive(Clone, Copy)]
 pub enum Level {
     Small(f32),
     Large(f32),
@@ -156,7 +158,7 @@ fn offset_by_sign(hebap: u8, gk: u8, below: bool) -> i16
 }
 
 // a, and b by the sign of the number, of a hebap and a gain, as fractions.
-#[derive(Drop)]
+#[derive(Clone, Copy)]
 pub struct Remap {
     pub a: f32,
     pub up: f32,
@@ -229,7 +231,7 @@ fn power_at(hebap: u8, gk: u8) -> i32
 
 // What they have in common: the remap; the bits of small and of large codes; the fractions 1 / 2^(m-1) and, for
 // large codes, 1 / 2^(bits - 1); the exact value of a step of each, and of b by the sign of the number.
-#[derive(Drop)]
+#[derive(Clone, Copy)]
 pub struct CodeScale {
     pub hebap: u8,
     pub gk: u8,

@@ -1,4 +1,6 @@
 // A plan on pages: each bin with its hebap, its gain and its bits. docs/FORMAT.md, Pages.
+#![tactic(auto)]
+
 ghost use Rattle.std.specs.Prelude.{◌≡◌, ◌∷◌, ◌+◌, ◌-◌, ◌*◌, ◌<◌, ◌≤◌, length};
 ghost use Rattle.bits.specs.Bits.{splice};
 ghost use Rattle.channel.specs.Row.{active_count};
@@ -11,7 +13,7 @@ use answers::SizeResult;
 use planner::Plan;
 
 // What is shown of a bin; gk is 0 where the bin isn't active.
-#[derive(Drop)]
+#[derive(Clone, Copy)]
 pub struct Cell {
     pub bin: u32,
     pub hebap: u8,

@@ -1,4 +1,6 @@
 // The plan of a channel: which mode and which gains take the fewest bits.
+#![tactic(auto)]
+
 ghost use Rattle.std.specs.Prelude.{◌≡◌, cond, ◌+◌, ◌*◌, ◌<◌, ◌≤◌, length};
 ghost use Rattle.channel.specs.Bins.{some_over};
 ghost use Rattle.gains.specs.Gains.{active};
@@ -13,7 +15,7 @@ mod one_bin;
 mod tally;
 
 // The gains are Gk in bin order, count of them, then zeros. The total is 2 plus the payload.
-#[derive(Drop)]
+#[derive(Clone, Copy)]
 pub struct Plan {
     pub mode: u8,
     pub gains: [u8; 256],
@@ -22,14 +24,14 @@ pub struct Plan {
 }
 
 // 0 and the plan, or the number of the refusal and zeros.
-#[derive(Drop)]
+#[derive(Clone, Copy)]
 pub struct Planned {
     pub refusal: u8,
     pub plan: Plan,
 }
 
 // The bits of a bin's six codes at each gain.
-#[derive(Drop)]
+#[derive(Clone, Copy)]
 pub struct Costs {
     pub one: u32,
     pub two: u32,
@@ -37,7 +39,7 @@ pub struct Costs {
 }
 
 // The sizes from which on a component takes the tag and a large code.
-#[derive(Drop)]
+#[derive(Clone, Copy)]
 pub struct Limits {
     pub two: f32,
     pub four: f32,

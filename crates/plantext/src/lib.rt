@@ -1,4 +1,6 @@
 // The desk's answer, printed as text into a lent buffer.
+#![tactic(auto)]
+
 ghost use Rattle.std.specs.Prelude.{◌≡◌, ◌∷◌, [], ◌+◌, ◌*◌, ◌<◌, ◌≤◌, length};
 ghost use Rattle.bits.specs.Bits.{splice};
 ghost use Rattle.plantext.specs.PlanText.{decimal, hex_of, spaced, hexes, line, gains_name, field_name, choice_lines, size_lines, plan_text, refused_text};

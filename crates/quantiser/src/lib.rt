@@ -1,5 +1,7 @@
 // The quantiser: which code is picked for a mantissa. The operations are the Rust's, but that the levels of large codes
 // are multiplied by 1 / 2^n where the Rust divides by 2^n, which is proved to give the same f32.
+#![tactic(auto)]
+
 ghost use Rattle.std.specs.Prelude.{◌≡◌, ◌≤◌, length};
 ghost use Rattle.quantiser.specs.Quantise.{picked, allowed, quantised, bin_values, codes_bits, error_from, bin_picked, no_bin, quantised_bin};
 ghost use Rattle.quantiser.specs.Work.{unit_by, steps_of, IsSteps};
@@ -17,14 +19,14 @@ mod reals;
 mod round;
 
 // The code that is picked and its level, or the number of the refusal.
-#[derive(Drop)]
+#[derive(Clone, Copy)]
 pub enum PickResult {
     Picked(Code, Level),
     Refused(u8),
 }
 
 // The six values of a bin, its bits and the sum of its squared errors. refusal is 0, or its number beside zeros.
-#[derive(Drop)]
+#[derive(Clone, Copy)]
 pub struct QuantisedBin {
     pub refusal: u8,
     pub values: [f32; 6],
@@ -33,14 +35,14 @@ pub struct QuantisedBin {
 }
 
 // The bits of a bin and the sum of its squared errors.
-#[derive(Drop)]
+#[derive(Clone, Copy)]
 pub struct Sums {
     pub bits: u32,
     pub err: f32,
 }
 
 // A code and its level.
-#[derive(Drop)]
+#[derive(Clone, Copy)]
 pub struct CodeLevel {
     pub code: Code,
     pub level: Level,
@@ -49,7 +51,7 @@ pub struct CodeLevel {
 // What a hebap and a gain fix, computed once for many components: the remap; n, where 2^n is full scale of the large
 // codes (at Gk 1 of all), and 1 / 2^n; the step of the estimate; the values of the levels 0 and -1; full scale and
 // the bits of the small codes, and the bits of the large ones.
-#[derive(Drop)]
+#[derive(Clone, Copy)]
 pub struct Steps {
     pub hebap: u8,
     pub gk: u8,
@@ -65,14 +67,14 @@ pub struct Steps {
 }
 
 // A code as one number, its tag with it, and how many bits that has.
-#[derive(Drop)]
+#[derive(Clone, Copy)]
 pub struct CodeWord {
     pub bits: u32,
     pub width: u32,
 }
 
 // The best level so far and its error.
-#[derive(Drop)]
+#[derive(Clone, Copy)]
 pub struct Best {
     pub k: i64,
     pub e: f32,

@@ -1,4 +1,6 @@
 // The channel reader: the layout of a field backwards.
+#![tactic(auto)]
+
 ghost use Rattle.std.specs.Prelude.{◌≡◌, ◌||◌, ◌+◌, ◌-◌, ◌*◌, ◌<◌, ◌≤◌, ltb, length};
 ghost use Rattle.bits.specs.Bits.{bit_at, Inside};
 ghost use Rattle.levels.specs.Work.{ScalesLoaded};
@@ -17,7 +19,7 @@ mod whole_field;
 
 // refusal is 0, or its number beside zeros. The gains are Gk in bin order, count of them, then zeros; bits is the
 // length of the field.
-#[derive(Drop)]
+#[derive(Clone, Copy)]
 pub struct ChannelRead {
     pub refusal: u8,
     pub mode: u8,
@@ -27,7 +29,7 @@ pub struct ChannelRead {
 }
 
 // The mode, how many gains, and the position behind the field; or the number of the refusal.
-#[derive(Drop)]
+#[derive(Clone, Copy)]
 pub enum FieldResult {
     Done(u8, usize, BitPos),
     Refused(u8),

@@ -1,6 +1,7 @@
 // What replay and replay_channels share. A record is a call with the answer that the Rust gave (tests/judge/record.rs
 // wrote it): the places that every record has, the numbers that stand there, whether an answer is the record's, and
 // the count of answers. A place behind the end holds 0.
+#![tactic(auto)]
 ghost use Rattle.std.specs.Prelude.{◌≡◌, ◌<◌, take, drop};
 ghost use Rattle.levels.specs.Codes.{signed};
 ghost use Rattle.records.specs.Records.{at8, at16, at32, at64, float_of, position_of, same_value, same_place, same_float, new_count, one_more, count_after};
@@ -22,7 +23,7 @@ pub const NEXT_BYTE: usize = 112;
 pub const NEXT_BIT: usize = 120;
 
 // A function, how many answers of it were replayed, and how many of them were wrong.
-#[derive(Drop)]
+#[derive(Clone, Copy)]
 pub struct Count {
     pub function: u8,
     pub answers: u64,

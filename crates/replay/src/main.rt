@@ -1,5 +1,6 @@
 // Replays the recorded answers of the calls below the planner (tests/judge/record.rs has what a record is and how it
 // was made). Prints for each function how many answers were replayed and how many were wrong.
+#![tactic(auto)]
 ghost use Rattle.std.specs.Prelude.{◌≤◌};
 
 use answers::{ByteResult, SizeResult};

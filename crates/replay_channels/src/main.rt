@@ -1,5 +1,6 @@
 // Replays the recorded answers of the calls that plan, write, read and print a channel, as replay does for the calls
 // below them: channels of up to eight bins (tests/judge/record_channels.rs has what a record is and how it was made).
+#![tactic(auto)]
 ghost use Rattle.std.specs.Prelude.{◌≤◌};
 
 use answers::SizeResult;

@@ -1,4 +1,6 @@
 // The reading of scalar mantissas: a code, the six codes of a bin, and read_scalar_aht_mantissas of the Rust.
+#![tactic(auto)]
+
 ghost use Rattle.std.specs.Prelude.{◌≡◌, ◌+◌, ◌*◌, ◌<◌, ◌≤◌, length, drop, replicate, set};
 ghost use Rattle.bits.specs.Bits.{bits_of, bit_at, Inside};
 ghost use Rattle.bits.specs.Format.{got};
@@ -16,14 +18,14 @@ use bits::{BitMove, BitPos};
 use levels::{Code, CodeScale};
 
 // What read_code answers: the code and the advanced position, or the number of the refusal.
-#[derive(Drop)]
+#[derive(Clone, Copy)]
 pub enum CodeResult {
     Read(Code, BitPos),
     Refused(u8),
 }
 
 // A code and how many bits it takes.
-#[derive(Drop)]
+#[derive(Clone, Copy)]
 pub struct CodeAhead {
     pub code: Code,
     pub bits: u32,

@@ -1,4 +1,6 @@
 // The tables of ATSC A/52 Annex E, section 3.4, and what they say of a hebap.
+#![tactic(auto)]
+
 ghost use Rattle.std.specs.Prelude.{◌≡◌, ◌-◌, ◌<◌, get_or};
 ghost use Rattle.tables.specs.Numbers.{hebaptab};
 ghost use Rattle.tables.specs.Tables.{mant_bits, vq_bits, gaq_remap_at, hebap_from_address, book};

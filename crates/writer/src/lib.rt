@@ -1,4 +1,6 @@
 // The writer: the field of a plan put into an output, a code and a gain word at a time.
+#![tactic(auto)]
+
 ghost use Rattle.std.specs.Prelude.{◌≡◌, ◌*◌, ◌<◌, ◌≤◌, false, length, drop};
 ghost use Rattle.bits.specs.Bits.{bits_n, bit_at};
 ghost use Rattle.books.specs.Work.{FractionsLoaded};
@@ -14,7 +16,7 @@ use gains::Coding;
 use planner::Plan;
 
 // What write_aht_channel answers: the position behind the field, or the number of the refusal.
-#[derive(Drop)]
+#[derive(Clone, Copy)]
 pub enum ChannelWrite {
     Done(BitPos),
     Refused(u8),

@@ -4,16 +4,10 @@ use mathlib.Core.Path.{◌≡◌}
 use Rattle.bits.specs.Bits.{bit_at}
 use native.Mathlib.Omega.{arith}
 use borrow.Author.Rules.{rules}
-use Rattle.bits.proofs.BitPos.advance_bits.Statement.{statement}
-use Rattle.bits.proofs.BitPos.advance_bits.Tie as tie
+use Rattle.bits.proofs.BitPos.advance_bits.Goals as goal
 
-returns : tie.Need-returns
-returns c =
-    let a = c.args in
+pub returns : goal.returns
+returns c = let a = c.args in
     let q : a.self.byte + (a.self.bit + a.n) / 8 ≡ (bit_at a.self + a.n) / 8 = omega arith in
     let r : (a.self.bit + a.n) % 8 ≡ (bit_at a.self + a.n) % 8 = omega arith in
     cc
-
-pub advance_bits_spec : {M : Type 1} → statement M
-advance_bits_spec =
-    tie.close (tie.spec (λ c. search rules) (λ c. search rules) (λ c. search rules) (λ c. search rules) returns)
