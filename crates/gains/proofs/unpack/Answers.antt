@@ -1,0 +1,6 @@
+-- `gains::unpack` meets its contract. Assumes nothing.
+use borrow.Author.Rules.{rules}
+use Rattle.gains.proofs.unpack.Goals as goal
+
+pub returns : goal.returns
+returns c = rw c.first_code.ensures
