@@ -16,7 +16,7 @@ apart : (s : List ℕ) (p : BitPos) (n : ℕ) (r r' : BitRead) → r ≡ read_at
 apart s p n r r' e e' = ap (λ (x : BitRead). record { answer = answer_of x; pos = read_place p x }) (sym e' ∙ e)
 
 pub returns-in-Number : goal.returns-in-Number
-returns-in-Number c = apart _ _ _ _ _ c.read_u32.ensures c.v-1.given.1
+returns-in-Number c = apart _ _ _ _ _ c.read_u32.ensures c.in-Number.is
 
 pub returns-in-Refused : goal.returns-in-Refused
-returns-in-Refused c = apart _ _ _ _ _ c.read_u32.ensures c.k-1.given.1
+returns-in-Refused c = apart _ _ _ _ _ c.read_u32.ensures c.in-Refused.is
