@@ -10,6 +10,7 @@ use Rattle.levels.proofs.Common.{chosen}
 use native.Mathlib.Omega.{arith}
 use borrow.Author.Rules.{rules}
 use Rattle.levels.proofs.any_too_large.Goals as goal
+use Rattle.levels.proofs.any_too_large.Goals.{else-in_range, then-in_range}
 
 pub loop-j-init : goal.loop-j-init
 loop-j-init c = (omega arith, refl)
@@ -18,8 +19,8 @@ pub loop-j-preserved : goal.loop-j-preserved
 loop-j-preserved c = let b : c.if-in_range.found ≡ cond c.in_range.result c.loop-j.found true =
     chosen (λ t. cond t c.loop-j.found true) c.in_range.result c.if-in_range.found
     (elim c.if-in_range.branch [
-      | inl h ↦ inl (h.0.taken, h.1)
-      | inr h ↦ inr (h.0.left, h.1)
+      | then-in_range h ↦ inl (h.if-in_range.true, h.found-is)
+      | else-in_range h ↦ inr (h.if-in_range.false, h.found-is)
     ]) in
     (omega arith, some_turn c.args.x.now c.loop-j.j (omega arith) c.loop-j.found c.in_range.result c.if-in_range.found c.in_range.ensures b c.loop-j.invariant.1)
 

@@ -10,11 +10,12 @@ use lib.Dec.{eqb}
 use Rattle.tables.proofs.Rules.{mant_bits_lem}
 use Rattle.levels.proofs.Signed.{cast_power, power_fits}
 use Rattle.levels.proofs.power_at.Goals as goal
+use Rattle.levels.proofs.power_at.Goals.{else-gk-eq2, then-gk-eq2}
 
 pub overflow_sub-most : goal.overflow_sub-most
 overflow_sub-most c = let most_range : ((16 ≤ c.if-gk-eq2.most) × (c.if-gk-eq2.most ≤ 17)) = (elim c.if-gk-eq2.branch [
-  | inl i ↦ rw i.1 (omega arith, omega arith)
-  | inr i ↦ rw i.1 (omega arith, omega arith)
+  | then-gk-eq2 i ↦ rw i.most-is (omega arith, omega arith)
+  | else-gk-eq2 i ↦ rw i.most-is (omega arith, omega arith)
 ]) in
     let few : ((c.mant.result ≤ c.if-gk-eq2.most) × (c.if-gk-eq2.most - c.mant.result < 31)) = (let m = mant_bits_lem c.args.hebap c.requires.0 c.requires.1 in
     let e = c.mant.ensures in
@@ -24,8 +25,8 @@ overflow_sub-most c = let most_range : ((16 ≤ c.if-gk-eq2.most) × (c.if-gk-eq
 
 pub pow2-requires : goal.pow2-requires
 pow2-requires c = let most_range : ((16 ≤ c.if-gk-eq2.most) × (c.if-gk-eq2.most ≤ 17)) = (elim c.if-gk-eq2.branch [
-  | inl i ↦ rw i.1 (omega arith, omega arith)
-  | inr i ↦ rw i.1 (omega arith, omega arith)
+  | then-gk-eq2 i ↦ rw i.most-is (omega arith, omega arith)
+  | else-gk-eq2 i ↦ rw i.most-is (omega arith, omega arith)
 ]) in
     let few : ((c.mant.result ≤ c.if-gk-eq2.most) × (c.if-gk-eq2.most - c.mant.result < 31)) = (let m = mant_bits_lem c.args.hebap c.requires.0 c.requires.1 in
     let e = c.mant.ensures in
@@ -35,8 +36,8 @@ pow2-requires c = let most_range : ((16 ≤ c.if-gk-eq2.most) × (c.if-gk-eq2.mo
 
 pub overflow_cast-result : goal.overflow_cast-result
 overflow_cast-result c = let most_range : ((16 ≤ c.if-gk-eq2.most) × (c.if-gk-eq2.most ≤ 17)) = (elim c.if-gk-eq2.branch [
-  | inl i ↦ rw i.1 (omega arith, omega arith)
-  | inr i ↦ rw i.1 (omega arith, omega arith)
+  | then-gk-eq2 i ↦ rw i.most-is (omega arith, omega arith)
+  | else-gk-eq2 i ↦ rw i.most-is (omega arith, omega arith)
 ]) in
     let few : ((c.mant.result ≤ c.if-gk-eq2.most) × (c.if-gk-eq2.most - c.mant.result < 31)) = (let m = mant_bits_lem c.args.hebap c.requires.0 c.requires.1 in
     let e = c.mant.ensures in
@@ -46,12 +47,12 @@ overflow_cast-result c = let most_range : ((16 ≤ c.if-gk-eq2.most) × (c.if-gk
 
 pub returns : goal.returns
 returns c = let most_is : (c.if-gk-eq2.most ≡ cond (eqb c.args.gk 2) 17 16) = (elim c.if-gk-eq2.branch [
-  | inl i ↦ i.1 ∙ rw (eq-eqb _ _ i.0.taken)
-  | inr i ↦ i.1 ∙ rw (ne_eqb _ _ i.0.left)
+  | then-gk-eq2 i ↦ i.most-is ∙ rw (eq-eqb _ _ i.if-gk-eq2.true)
+  | else-gk-eq2 i ↦ i.most-is ∙ rw (ne_eqb _ _ i.if-gk-eq2.false)
 ]) in
     let most_range : ((16 ≤ c.if-gk-eq2.most) × (c.if-gk-eq2.most ≤ 17)) = (elim c.if-gk-eq2.branch [
-      | inl i ↦ rw i.1 (omega arith, omega arith)
-      | inr i ↦ rw i.1 (omega arith, omega arith)
+      | then-gk-eq2 i ↦ rw i.most-is (omega arith, omega arith)
+      | else-gk-eq2 i ↦ rw i.most-is (omega arith, omega arith)
     ]) in
     let few : ((c.mant.result ≤ c.if-gk-eq2.most) × (c.if-gk-eq2.most - c.mant.result < 31)) = (let m = mant_bits_lem c.args.hebap c.requires.0 c.requires.1 in
     let e = c.mant.ensures in

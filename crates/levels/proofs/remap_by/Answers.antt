@@ -7,6 +7,7 @@ use Rattle.levels.specs.Value.{f0}
 use Rattle.levels.specs.Work.{remap_by}
 use Rattle.levels.proofs.Common.{chosen}
 use Rattle.levels.proofs.remap_by.Goals as goal
+use Rattle.levels.proofs.remap_by.Goals.{else-x, then-x}
 
 pub returns : goal.returns
 unfolding remap_by
@@ -14,7 +15,7 @@ returns c = let x = c.args in
     let b : c.if-x.b ≡ cond (le f0 x.x) x.r.up x.r.below =
     chosen (λ t. cond t x.r.up x.r.below) (le f0 x.x) c.if-x.b
     (elim c.if-x.branch [
-      | inl h ↦ inl (h.0.taken, h.1)
-      | inr h ↦ inr (h.0.left, h.1)
+      | then-x h ↦ inl (h.if-x.true, h.b-is)
+      | else-x h ↦ inr (h.if-x.false, h.b-is)
     ]) in
     ap (add binary32 (add binary32 x.x (mul binary32 x.r.a x.x))) b

@@ -56,7 +56,7 @@ below_is : (c : After-whole-4) → to_z w32 (of_z w32 c.whole-4.result) ≡ pos 
 below_is c = back w32 c.whole-4.result c.whole-4.type_inv c.whole-4.ensures
 
 pub overflow_sub-result : goal.overflow_sub-result
-overflow_sub-result c = rw (below_is c) (neg_fits _ (whole-requires-4 (goal.at.overflow_sub-result c).After-whole-3 c.lifetimes).1)
+overflow_sub-result c = rw (below_is c) (neg_fits _ (whole-requires-4 (goal.at.overflow_sub-result c).After-whole-3).k_bound_2)
 
 pub returns : goal.returns
 returns c = row_is_scale c.args.t.now c.requires.scales_loaded c.args.hebap c.args.gk c.requires.le_hebap.0 c.requires.le_hebap.1 c.row_of-i.result c.row_of-i.ensures _ _ _ _ _ _ _ _ _ _ _
