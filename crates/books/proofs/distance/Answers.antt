@@ -1,0 +1,7 @@
+-- `books::distance` meets its contract. Assumes nothing.
+use borrow.Author.Rules.{rules}
+use Rattle.books.proofs.Columns.{six_terms}
+use Rattle.books.proofs.distance.Goals as goal
+
+pub returns : goal.returns
+returns c = six_terms _ _ _ _ _ _ _ _ _ _ _ _ _ _ _ c.term-a.ensures c.term-b.ensures c.term-c.ensures c.term-d.ensures c.term-e.ensures c.term.ensures

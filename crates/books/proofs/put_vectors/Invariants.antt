@@ -1,0 +1,22 @@
+-- `books::put_vectors` meets its contract. Assumes nothing.
+use Prim.Native.Nat.{◌+◌, ◌-◌, ◌*◌, ◌≤◌}
+use mathlib.Core.Path.{◌≡◌, refl, sym, ap, ◌∙◌}
+use native.Mathlib.Omega.{arith}
+use borrow.Author.Rules.{rules}
+use lib.ListN.{length, length-set, take, get_or}
+use lib.IntN.{pos}
+use mir.Syntax.{w16}
+use mir.ValLaws.{to_z-of_z}
+use Rattle.bits.specs.Bits.{splice}
+use Rattle.bits.proofs.Laws.{splice_none}
+use Rattle.books.specs.Books.{vectors_of}
+use Rattle.books.specs.Work.{VectorsOf}
+use Rattle.books.proofs.Laws.{book_of}
+use Rattle.books.proofs.Loading.{put_turn, put_end, load_fits, load_next}
+use Rattle.books.proofs.put_vectors.Given as goal
+
+abbrev pub invariant-loop-i : goal.invariant-loop-i
+invariant-loop-i l = (l.at + length l.from ≤ length l.initial.room) × (length l.room ≡ length l.initial.room) × (l.room ≡ splice l.initial.room l.at (take l.i l.from))
+
+abbrev pub decreases-loop-i : goal.decreases-loop-i
+decreases-loop-i l = length l.from - l.i

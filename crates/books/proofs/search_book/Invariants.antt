@@ -1,0 +1,25 @@
+-- `books::search_book` meets its contract. Assumes nothing.
+use Prim.Native.Nat.{ℕ, ◌+◌, ◌-◌, ◌*◌, ◌%◌, ◌<◌, ◌≤◌}
+use mathlib.Core.Path.{◌≡◌, ◌∙◌, sym, ap, refl}
+use mathlib.Core.Bool.{false}
+use mathlib.Core.Logic.{⊎_elim}
+use native.Mathlib.Nat.{sub-zero}
+use native.Mathlib.Omega.{arith}
+use borrow.Author.Rules.{rules}
+use lib.Ieee.{inf, of_bits, nan_bits}
+use lib.ListN.{length}
+use Rattle.tables.specs.Tables.{book}
+use Rattle.tables.proofs.Rules.{book_fits}
+use Rattle.books.specs.Books.{search_from}
+use Rattle.books.specs.Fractions.{floats}
+use Rattle.books.specs.Work.{NoNans, distance_in}
+use Rattle.books.proofs.Laws.{HasBook, book_of}
+use Rattle.books.proofs.Columns.{book_length, no_nans, searched}
+use Rattle.books.proofs.Steps.{on_from, by_end, four_on_lem, by_four, by_four_farther}
+use Rattle.books.proofs.search_book.Given as goal
+
+abbrev pub invariant-loop-k : goal.invariant-loop-k
+invariant-loop-k l = (l.k ≤ l.n) × (l.k % 4 ≡ 0) × (l.n * 6 ≤ length l.t) × (l.n < 1024) × (l.n % 4 ≡ 0) × NoNans l.t × (on_from (distance_in l.x (floats l.t) l.n) l.n l.k l.s ≡ search_from (distance_in l.x (floats l.t) l.n) l.n 0 0 (inf false))
+
+abbrev pub decreases-loop-k : goal.decreases-loop-k
+decreases-loop-k l = l.n - l.k
