@@ -24,5 +24,5 @@ returns c = let size : (length c.args.from.now ≡ 6 * vectors_of c.args.hebap) 
 
 pub loop-i-init : goal.loop-i-init
 loop-i-init c = let size : (length c.args.from.now ≡ 6 * vectors_of c.args.hebap) = (let a = c.args in book_length a.hebap a.from.now c.requires.2) in
-    let fits : (c.place_at.result + length c.args.from.now ≤ length c.args.room.now) = (load_fits FractionsOf c.args.hebap c.place_at.result c.args.room.now c.args.from.now (omega arith) c.place_at.ensures (size) c.requires.3) in
+    let fits : (c.place-at.result + length c.args.from.now ≤ length c.args.room.now) = (load_fits FractionsOf c.args.hebap c.place-at.result c.args.room.now c.args.from.now (omega arith) c.place-at.ensures (size) c.requires.3) in
     (fits, refl, sym (splice_none _ _))

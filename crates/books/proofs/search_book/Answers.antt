@@ -17,7 +17,7 @@ use Rattle.books.proofs.Laws.{HasBook, book_of}
 use Rattle.books.proofs.Columns.{book_length, no_nans, searched}
 use Rattle.books.proofs.Steps.{on_from, by_end, four_on_lem, by_four, by_four_farther}
 use Rattle.books.proofs.search_book.Goals as goal
-use Rattle.books.proofs.search_book.Goals.{In-loop-k}
+use Rattle.books.proofs.search_book.Goals.{then-any_less, else-any_less, In-loop-k}
 
 pub float_from_bits-s : goal.float_from_bits-s
 unfolding nan_bits
@@ -47,7 +47,7 @@ distance_there : (c : In-loop-k) (i : ℕ) → i ≤ 3
     ((n * 6 ≤ length t) × (n < 1024) × (c.loop-k.k + i < n)) × NoNans t
 distance_there c i u =
     let inv = c.loop-k.invariant in
-    let h = (four_there c).0 in
+    let h : c.loop-k.k + 3 < c.vectors_in-n.result = omega arith in
     ((inv.2, inv.3, omega arith), inv.5)
 
 pub loop-k-preserved : goal.loop-k-preserved
@@ -71,10 +71,10 @@ loop-k-preserved c = let four_there : ((c.loop-k.k + 3 < c.vectors_in-n.result) 
       c.loop-k.invariant.3,
       c.loop-k.invariant.4,
       c.loop-k.invariant.5,
-      ⊎_elim
-          (λ w. ap (on_from f n (k + 4)) (w.5 ∙ four_on_lem s da.result db.result dc.result dd.result k _ _ _ _ w.1.ensures w.2.ensures w.3.ensures w.4.ensures) ∙ sym on ∙ c.loop-k.invariant.6)
-          (λ w. ap (on_from f n (k + 4)) w.1 ∙ sym (off (sym c.any_less.ensures ∙ w.0.left)) ∙ c.loop-k.invariant.6)
-          c.if-any_less.branch,
+      elim c.if-any_less.branch [
+        | then-any_less w ↦ ap (on_from f n (k + 4)) (w.s-is ∙ four_on_lem s da.result db.result dc.result dd.result k _ _ _ _ w.nearer.ensures w.nearer-then-any_less.ensures w.nearer-then-any_less-2.ensures w.nearer-s.ensures) ∙ sym on ∙ c.loop-k.invariant.6
+        | else-any_less w ↦ ap (on_from f n (k + 4)) w.s-is ∙ sym (off (sym c.any_less.ensures ∙ w.if-any_less.false)) ∙ c.loop-k.invariant.6
+      ],
     )
 
 pub returns : goal.returns

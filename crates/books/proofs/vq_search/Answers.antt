@@ -23,4 +23,4 @@ returns c = let there : (HasBook c.args.hebap c.vectors_in.result) = (has_book_l
 
 pub search-requires : goal.search-requires
 search-requires c = let there : (HasBook c.args.hebap c.vectors_in.result) = (has_book_lem c.args.hebap c.vectors_in.result c.vectors_in.ensures c.if-vectors_in-eq0.false) in
-    let k = there in let both = search rules in record { le_hebap = both.0; x_len = both.1 }
+    let k = there in record { le_hebap = search rules; x_len = search rules }
