@@ -1,0 +1,17 @@
+-- `planner::fit::any_wrong` meets its contract. Assumes nothing.
+use Prim.Native.Nat.{ℕ, ◌≤◌, ◌-◌}
+use mathlib.Core.Path.{◌≡◌, sym, ◌∙◌, ap}
+use mathlib.Core.Bool.{false, not}
+use native.Mathlib.Omega.{arith}
+use Rattle.gains.specs.Gains.{allowed_gain}
+use Rattle.channel.specs.Bins.{some_over}
+use Rattle.channel.proofs.Over.{some_none, some_turn, some_found, some_end}
+use Rattle.planner.specs.Fit.{wrong_gain}
+use borrow.Author.Rules.{rules}
+use Rattle.planner.proofs.fit.any_wrong.Given as goal
+
+abbrev pub invariant-loop-i : goal.invariant-loop-i
+invariant-loop-i l = (l.i ≤ l.count) × (some_over (wrong_gain l.mode l.gains) 0 l.i ≡ false)
+
+abbrev pub decreases-loop-i : goal.decreases-loop-i
+decreases-loop-i l = l.count - l.i

@@ -1,0 +1,16 @@
+-- `planner::one_bin::best_gain` meets its contract. Assumes nothing.
+use Rattle.planner.proofs.Steps.{gain_1, gain_2, gain_3, gain_none}
+use borrow.Author.Rules.{rules}
+use Rattle.planner.proofs.one_bin.best_gain.Goals as goal
+
+pub returns-in-1 : goal.returns-in-1
+returns-in-1 c = let s = c.args in gain_1 s.mode c.cheaper_gain.result s.c c.in-1.is c.cheaper_gain.ensures
+
+pub returns-in-2 : goal.returns-in-2
+returns-in-2 c = let s = c.args in gain_2 s.mode c.cheaper_gain-in-2.result s.c c.in-2.is c.cheaper_gain-in-2.ensures
+
+pub returns-in-3 : goal.returns-in-3
+returns-in-3 c = let s = c.args in gain_3 s.mode c.cheaper_gain-in-3.result c.cheaper_gain-in-3-2.result s.c c.in-3.is c.cheaper_gain-in-3.ensures c.cheaper_gain-in-3-2.ensures
+
+pub returns-in_default : goal.returns-in_default
+returns-in_default c = let r = c.in_default.in_default-own.rest in gain_none c.args.mode c.args.c r.0.0.1 r.0.1 r.1

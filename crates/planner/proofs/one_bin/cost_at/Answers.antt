@@ -1,0 +1,16 @@
+-- `planner::one_bin::cost_at` meets its contract. Assumes nothing.
+use borrow.Author.Tests.{ne_eqb}
+use Rattle.planner.specs.Work.{cost_in}
+use Rattle.planner.proofs.one_bin.cost_at.Goals as goal
+
+pub returns-in-1 : goal.returns-in-1
+unfolding cost_in
+returns-in-1 c = simp c.in-1.is
+
+pub returns-in-2 : goal.returns-in-2
+unfolding cost_in
+returns-in-2 c = simp c.in-2.is
+
+pub returns-in_default : goal.returns-in_default
+unfolding cost_in
+returns-in_default c = simp (ne_eqb _ _ c.in_default.in_default-own.rest.0.1, ne_eqb _ _ c.in_default.in_default-own.rest.1)

@@ -1,0 +1,16 @@
+-- `planner::tally::best_mode` meets its contract. Assumes nothing.
+use Prim.Native.Nat.{◌≤◌, ◌-◌}
+use mathlib.Core.Path.{◌≡◌, refl, ◌∙◌, ap}
+use native.Mathlib.Nat.{le_refl, le_antisymm}
+use Rattle.planner.specs.Choice.{least_up_to}
+use Rattle.planner.specs.Work.{payload_in}
+use Rattle.planner.proofs.Steps.{least_taken, least_kept}
+use native.Mathlib.Omega.{arith}
+use borrow.Author.Rules.{rules}
+use Rattle.planner.proofs.tally.best_mode.Given as goal
+
+abbrev pub invariant-loop-mode : goal.invariant-loop-mode
+invariant-loop-mode l = (l.best ≤ l.mode) × (l.mode ≤ l.top) × (l.best ≡ least_up_to (payload_in l.plain l.bits l.used) l.mode)
+
+abbrev pub decreases-loop-mode : goal.decreases-loop-mode
+decreases-loop-mode l = l.top - l.mode

@@ -1,0 +1,17 @@
+-- `reader::hand_over::copy_exact` meets its contract. The invariant is Copies.Copied. Assumes nothing.
+use Prim.Native.Nat.{◌-◌}
+use native.Mathlib.Omega.{arith}
+use borrow.Author.Rules.{rules}
+use lib.IntN.{pos}
+use lib.ListN.{get_or}
+use mir.Syntax.{w32}
+use mir.Val.{SFits}
+use mir.ValLaws.{to_z-of_z}
+use Rattle.reader.proofs.Copies.{Copied, copied_none, copied_one, copied_all}
+use Rattle.reader.proofs.hand_over.copy_exact.Given as goal
+
+abbrev pub invariant-loop-i : goal.invariant-loop-i
+invariant-loop-i l = Copied l.from l.initial.to l.a l.b l.to l.i
+
+abbrev pub decreases-loop-i : goal.decreases-loop-i
+decreases-loop-i l = l.b - l.i
