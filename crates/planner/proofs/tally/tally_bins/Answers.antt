@@ -48,7 +48,7 @@ loop-bin-preserved c = let a = c.args in
       omega arith,
       omega arith,
       v.2,
-      λ m j. tally_plain a.row.now a.x.now a.start c.loop-bin.bin c.loop-bin.plain m (mode_at c.loop-bin.bits c.loop-bin.used c.loop-bin.kept m) (v.3 m j) v.0 c.plain_bits-plain.result (omega arith) (elim c.in_default.branch [ in_default-via-then-hebap-lt8 w ↦ let q = w.zz in ? | in_default-via-else-hebap-lt8+else-hebap-lt17 w ↦ let q = w.zz in ? ]) c.plain_bits-plain.ensures,
+      λ m j. tally_plain a.row.now a.x.now a.start c.loop-bin.bin c.loop-bin.plain m (mode_at c.loop-bin.bits c.loop-bin.used c.loop-bin.kept m) (v.3 m j) v.0 c.plain_bits-plain.result (omega arith) (elim c.in_default.branch [ in_default-via-then-hebap-lt8 w ↦ inl (omega arith) | in_default-via-else-hebap-lt8+else-hebap-lt17 w ↦ inr (omega arith) ]) c.plain_bits-plain.ensures,
     )
 
 pub shape_of-bits : goal.shape_of-bits
