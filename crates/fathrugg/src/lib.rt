@@ -1,6 +1,7 @@
 // The C interface: each call answers the number of its refusal, 0 for none. A position is a byte and a bit, lent and
 // moved on.
 #![tactic(auto)]
+
 ghost use Rattle.std.specs.Prelude.{◌≡◌};
 
 mod bit_calls;
