@@ -1,6 +1,6 @@
 -- Gain-adaptive quantisation: which bins have a gain, and how gains stand in the field.
 -- docs/FORMAT.md, Gains and 'Small ports'; ATSC A/52 Annex E, 3.4.2 and 3.4.4.2, Tables E3.3 and E3.4.
-use Rattle.std.specs.Prelude.{ℕ, zero, suc, ◌+◌, ◌-◌, ◌*◌, ◌/◌, ◌%◌, min, List, [], ◌∷◌, ◌++◌, map, Bool, false, cond, not, ◌&&◌, ◌||◌, eqb, leb, ltb, ℤ, pos, negsuc, length, take, drop}
+use Rattle.std.specs.Prelude.{ℕ, zero, suc, ◌+◌, ◌*◌, ◌/◌, ◌%◌, min, List, [], ◌∷◌, ◌++◌, map, Bool, false, cond, not, ◌&&◌, ◌||◌, eqb, leb, ltb, ℤ, pos, negsuc, length, take, drop}
 use Rattle.bits.specs.Bits.{number_of, bits_of, pos_of}
 use Rattle.bits.specs.declared.BitPos.{BitPos}
 use Rattle.answers.specs.declared.ByteResult.{ByteResult}

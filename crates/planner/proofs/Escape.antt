@@ -2,7 +2,7 @@
 use mathlib.Core.Path.{◌≡◌, refl, sym, ap, ◌∙◌, subst}
 use mathlib.Core.Bool.{Bool, true, false, not, ◌&&◌, ◌||◌, cond, true≢false, beq}
 use Prim.Native.Nat.{ℕ, zero, suc, min, ◌+◌, ◌-◌, ◌*◌, ◌/◌, ◌%◌, ◌^◌, ◌≤◌, ◌<◌, compare}
-use native.Mathlib.Nat.{not-le_of_lt, add-mul, le_trans, le_of_eq, lt_of_le_of_lt, lt_of_lt_of_le, mul-pos, mul_comm, zero-mul, mul_assoc, mul_right_comm, mul-one, one-mul, mul-lt-mul_of_pos_right, mul-le-mul_right, lt_of_mul-lt-mul_right, le-div_iff_mul-le, div-lt_iff_lt-mul, eq-or-lt_of_le, le_of_lt}
+use native.Mathlib.Nat.{add-mul, le_trans, le_of_eq, lt_of_le_of_lt, lt_of_lt_of_le, mul-pos, mul_comm, zero-mul, mul_assoc, mul_right_comm, mul-one, one-mul, mul-lt-mul_of_pos_right, mul-le-mul_right, lt_of_mul-lt-mul_right, le-div_iff_mul-le, div-lt_iff_lt-mul, eq-or-lt_of_le, le_of_lt}
 use mathlib.Core.Logic.{⊎_elim}
 use native.Mathlib.Omega.{arith}
 use borrow.Author.Tests.{le-leb, lt-leb, lt-ltb, le-ltb, ltb-true, ltb-false, leb-true, leb-false, eq-eqb, ne_eqb}

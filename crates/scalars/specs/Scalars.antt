@@ -1,7 +1,7 @@
 -- What reading scalar mantissas answers: a code, a bin, read_scalar_aht_mantissas.
 -- docs/FORMAT.md, Levels and 'Small ports'; ATSC A/52 Annex E, 3.4.4.2.
-use Rattle.std.specs.Prelude.{ℕ, ◌*◌, ◌-◌, Bool, cond, List, map, eqb, leb, ℤ, pos, negsuc, length, drop, replicate, Float}
-use Rattle.bits.specs.Bits.{bits_of, bit_at, pos_of}
+use Rattle.std.specs.Prelude.{ℕ, ◌*◌, Bool, cond, List, map, eqb, leb, ℤ, pos, negsuc, length, drop, replicate, Float}
+use Rattle.bits.specs.Bits.{bits_of, bit_at}
 use Rattle.bits.specs.Format.{Got, got, refused, and_then}
 use Rattle.tables.specs.Tables.{mant_bits}
 use Rattle.gains.specs.Gains.{gain_value}
@@ -9,7 +9,6 @@ use Rattle.levels.specs.declared.Code.{Code}
 use Rattle.levels.specs.Codes.{six}
 use Rattle.levels.specs.Value.{f0, value_of}
 use Rattle.scalars.specs.declared.CodeResult.{CodeResult}
-use Rattle.bits.specs.declared.BitMove.{BitMove}
 use Rattle.answers.specs.Causes as cause
 
 -- ---- the answers: the number, and the values, of each case

@@ -1,5 +1,4 @@
 -- `bitreader::all_three` meets its contract. Assumes nothing.
-use borrow.Author.Rules.{rules}
 use Rattle.bitreader.proofs.all_three.Goals as goal
 
 pub returns-in-Refused : goal.returns-in-Refused

@@ -1,13 +1,8 @@
 -- `bits::by_bytes` meets its contract. Assumes nothing.
-use Prim.Native.Nat.{◌+◌, ◌*◌, ◌-◌, ◌/◌, ◌%◌, ◌^◌, ◌≤◌, ◌<◌}
+use Prim.Native.Nat.{◌+◌, ◌*◌, ◌-◌, ◌≤◌, ◌<◌}
 use mathlib.Core.Path.{◌≡◌}
-use native.Mathlib.Nat.{lt_of_lt_of_le}
-use lib.Pow.{pow_pos, pow_mono, shl_lt}
 use lib.ListN.{take, drop}
 use Rattle.bits.specs.Bits.{bits_of, number_of}
-use Rattle.bits.proofs.Laws.{number_next, number_take_lt}
-use native.Mathlib.Omega.{arith}
-use borrow.Author.Rules.{rules}
 use Rattle.bits.proofs.by_bytes.Given as goal
 
 abbrev pub invariant-loop-i : goal.invariant-loop-i

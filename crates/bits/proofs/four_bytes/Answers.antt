@@ -1,7 +1,6 @@
 -- `bits::four_bytes` meets its contract. Assumes nothing.
 use Rattle.bits.proofs.Laws.{four_bytes}
 use native.Mathlib.Omega.{arith}
-use borrow.Author.Rules.{rules}
 use Rattle.bits.proofs.four_bytes.Goals as goal
 
 pub returns : goal.returns

@@ -4,7 +4,6 @@ use lib.Pow.{pow_pos}
 use Rattle.bits.specs.Bits.{bits_of}
 use Rattle.bits.proofs.Laws.{number_short}
 use native.Mathlib.Omega.{arith}
-use borrow.Author.Rules.{rules}
 use Rattle.bits.proofs.from_four.Goals as goal
 
 pub nonzero_rem-result : goal.nonzero_rem-result

@@ -1,13 +1,8 @@
 -- `bits::put_bits` meets its contract. Assumes nothing.
 use Prim.Native.Nat.{◌+◌, ◌*◌, ◌-◌, ◌≤◌, ◌<◌}
-use mathlib.Core.Path.{◌≡◌, refl, sym, ◌∙◌}
-use native.Mathlib.Nat.{mod-lt}
-use lib.Pow.{pow_pos}
-use lib.ListN.{length, take, length-set}
+use mathlib.Core.Path.{◌≡◌}
+use lib.ListN.{length, take}
 use Rattle.bits.specs.Bits.{bits_of, bits_n, splice}
-use Rattle.bits.proofs.Laws.{take_bits_n, write_next, splice_none}
-use native.Mathlib.Omega.{arith}
-use borrow.Author.Rules.{rules}
 use Rattle.bits.proofs.put_bits.Given as goal
 
 abbrev pub invariant-loop-i : goal.invariant-loop-i

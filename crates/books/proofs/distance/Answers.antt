@@ -1,5 +1,4 @@
 -- `books::distance` meets its contract. Assumes nothing.
-use borrow.Author.Rules.{rules}
 use Rattle.books.proofs.Columns.{six_terms}
 use Rattle.books.proofs.distance.Goals as goal
 

@@ -1,7 +1,6 @@
 -- `books::load_vectors` meets its contract: what one book leaves is what the next one asks. Assumes nothing.
 use mathlib.Core.Path.{sym, ◌∙◌}
 use native.Mathlib.Omega.{arith}
-use borrow.Author.Rules.{rules}
 use Rattle.books.specs.Work.{VectorsOf}
 use Rattle.books.proofs.Loading.{load_none}
 use Rattle.books.proofs.load_vectors.Goals as goal

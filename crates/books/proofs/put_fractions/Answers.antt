@@ -1,10 +1,8 @@
 -- `books::put_fractions` meets its contract. Assumes nothing.
-use Prim.Native.Nat.{◌+◌, ◌-◌, ◌*◌, ◌≤◌}
+use Prim.Native.Nat.{◌+◌, ◌*◌, ◌≤◌}
 use mathlib.Core.Path.{◌≡◌, refl, sym}
 use native.Mathlib.Omega.{arith}
-use borrow.Author.Rules.{rules}
-use lib.ListN.{length, length-set, take}
-use Rattle.bits.specs.Bits.{splice}
+use lib.ListN.{length, length-set}
 use Rattle.bits.proofs.Laws.{splice_none}
 use Rattle.books.specs.Books.{vectors_of}
 use Rattle.books.specs.Fractions.{FractionsOf}

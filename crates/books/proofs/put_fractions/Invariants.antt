@@ -1,15 +1,8 @@
 -- `books::put_fractions` meets its contract. Assumes nothing.
-use Prim.Native.Nat.{◌+◌, ◌-◌, ◌*◌, ◌≤◌}
-use mathlib.Core.Path.{◌≡◌, refl, sym}
-use native.Mathlib.Omega.{arith}
-use borrow.Author.Rules.{rules}
-use lib.ListN.{length, length-set, take}
+use Prim.Native.Nat.{◌+◌, ◌-◌, ◌≤◌}
+use mathlib.Core.Path.{◌≡◌}
+use lib.ListN.{length, take}
 use Rattle.bits.specs.Bits.{splice}
-use Rattle.bits.proofs.Laws.{splice_none}
-use Rattle.books.specs.Books.{vectors_of}
-use Rattle.books.specs.Fractions.{FractionsOf}
-use Rattle.books.proofs.Columns.{book_length}
-use Rattle.books.proofs.Loading.{put_turn, put_end, load_fits, load_next}
 use Rattle.books.proofs.put_fractions.Given as goal
 
 abbrev pub invariant-loop-i : goal.invariant-loop-i

@@ -1,15 +1,13 @@
 -- `books::put_six` meets its contract. Assumes nothing.
-use Prim.Native.Nat.{◌+◌, ◌-◌, ◌≤◌}
+use Prim.Native.Nat.{◌+◌}
 use mathlib.Core.Path.{◌≡◌, refl, sym, ap, ◌∙◌}
-use mathlib.Core.List.{map}
 use native.Mathlib.Omega.{arith}
 use borrow.Author.Rules.{rules}
 use lib.IntN.{pos}
-use lib.ListN.{length, length-set, take, drop, get_or}
+use lib.ListN.{length-set, get_or}
 use mir.Syntax.{w16, w32}
 use mir.Val.{SFits}
 use mir.ValLaws.{to_z-of_z}
-use Rattle.bits.specs.Bits.{splice}
 use Rattle.bits.proofs.Laws.{splice_none}
 use Rattle.levels.specs.Value.{q15}
 use Rattle.levels.proofs.Signed.{back}

@@ -1,6 +1,5 @@
 -- `books::put_vector` meets its contract. Assumes nothing.
 use native.Mathlib.Omega.{arith}
-use borrow.Author.Rules.{rules}
 use Rattle.books.proofs.Vectors.{Stands, stands}
 use Rattle.books.proofs.put_vector.Goals as goal
 

@@ -1,13 +1,12 @@
 -- `books::put_vectors` meets its contract. Assumes nothing.
-use Prim.Native.Nat.{◌+◌, ◌-◌, ◌*◌, ◌≤◌}
+use Prim.Native.Nat.{◌+◌, ◌*◌, ◌≤◌}
 use mathlib.Core.Path.{◌≡◌, refl, sym, ap, ◌∙◌}
 use native.Mathlib.Omega.{arith}
 use borrow.Author.Rules.{rules}
-use lib.ListN.{length, length-set, take, get_or}
+use lib.ListN.{length, length-set, get_or}
 use lib.IntN.{pos}
 use mir.Syntax.{w16}
 use mir.ValLaws.{to_z-of_z}
-use Rattle.bits.specs.Bits.{splice}
 use Rattle.bits.proofs.Laws.{splice_none}
 use Rattle.books.specs.Books.{vectors_of}
 use Rattle.books.specs.Work.{VectorsOf}

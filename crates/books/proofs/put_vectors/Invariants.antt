@@ -1,18 +1,8 @@
 -- `books::put_vectors` meets its contract. Assumes nothing.
-use Prim.Native.Nat.{◌+◌, ◌-◌, ◌*◌, ◌≤◌}
-use mathlib.Core.Path.{◌≡◌, refl, sym, ap, ◌∙◌}
-use native.Mathlib.Omega.{arith}
-use borrow.Author.Rules.{rules}
-use lib.ListN.{length, length-set, take, get_or}
-use lib.IntN.{pos}
-use mir.Syntax.{w16}
-use mir.ValLaws.{to_z-of_z}
+use Prim.Native.Nat.{◌+◌, ◌-◌, ◌≤◌}
+use mathlib.Core.Path.{◌≡◌}
+use lib.ListN.{length, take}
 use Rattle.bits.specs.Bits.{splice}
-use Rattle.bits.proofs.Laws.{splice_none}
-use Rattle.books.specs.Books.{vectors_of}
-use Rattle.books.specs.Work.{VectorsOf}
-use Rattle.books.proofs.Laws.{book_of}
-use Rattle.books.proofs.Loading.{put_turn, put_end, load_fits, load_next}
 use Rattle.books.proofs.put_vectors.Given as goal
 
 abbrev pub invariant-loop-i : goal.invariant-loop-i

@@ -1,6 +1,5 @@
 -- `books::search` meets its contract. Assumes nothing.
 use mathlib.Core.Path.{◌≡◌}
-use borrow.Author.Rules.{rules}
 use Rattle.books.proofs.Laws.{last_one}
 use Rattle.books.proofs.search.Goals as goal
 use Rattle.books.proofs.search.Goals.{In_default}

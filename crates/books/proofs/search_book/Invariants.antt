@@ -1,21 +1,13 @@
 -- `books::search_book` meets its contract. Assumes nothing.
-use Prim.Native.Nat.{ℕ, ◌+◌, ◌-◌, ◌*◌, ◌%◌, ◌<◌, ◌≤◌}
-use mathlib.Core.Path.{◌≡◌, ◌∙◌, sym, ap, refl}
+use Prim.Native.Nat.{◌-◌, ◌*◌, ◌%◌, ◌<◌, ◌≤◌}
+use mathlib.Core.Path.{◌≡◌}
 use mathlib.Core.Bool.{false}
-use mathlib.Core.Logic.{⊎_elim}
-use native.Mathlib.Nat.{sub-zero}
-use native.Mathlib.Omega.{arith}
-use borrow.Author.Rules.{rules}
-use lib.Ieee.{inf, of_bits, nan_bits}
+use lib.Ieee.{inf}
 use lib.ListN.{length}
-use Rattle.tables.specs.Tables.{book}
-use Rattle.tables.proofs.Rules.{book_fits}
 use Rattle.books.specs.Books.{search_from}
 use Rattle.books.specs.Fractions.{floats}
 use Rattle.books.specs.Work.{NoNans, distance_in}
-use Rattle.books.proofs.Laws.{HasBook, book_of}
-use Rattle.books.proofs.Columns.{book_length, no_nans, searched}
-use Rattle.books.proofs.Steps.{on_from, by_end, four_on_lem, by_four, by_four_farther}
+use Rattle.books.proofs.Steps.{on_from}
 use Rattle.books.proofs.search_book.Given as goal
 
 abbrev pub invariant-loop-k : goal.invariant-loop-k

@@ -1,6 +1,5 @@
 -- `books::six` meets its contract. Assumes nothing.
 use mathlib.Core.List.{[], ◌∷◌}
-use borrow.Author.Rules.{rules}
 use Rattle.books.specs.Books.{six_at}
 use Rattle.books.proofs.six.Goals as goal
 

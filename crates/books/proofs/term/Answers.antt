@@ -1,5 +1,4 @@
 -- `books::term` meets its contract. Assumes nothing.
-use borrow.Author.Rules.{rules}
 use Rattle.books.specs.Books.{term_of}
 use Rattle.books.proofs.Columns.{float_at}
 use Rattle.books.proofs.term.Goals as goal

@@ -1,6 +1,5 @@
 -- `books::vq_lookup` meets its contract. Assumes nothing.
 use native.Mathlib.Omega.{arith}
-use borrow.Author.Rules.{rules}
 use Rattle.books.specs.Books.{vq_lookup}
 use Rattle.books.proofs.Laws.{outside, without_book}
 use Rattle.books.proofs.vq_lookup.Goals as goal

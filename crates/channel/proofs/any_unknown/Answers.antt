@@ -1,5 +1,4 @@
 -- `channel::any_unknown` meets its contract. Assumes nothing.
-use Prim.Native.Nat.{◌≤◌, ◌-◌}
 use mathlib.Core.Path.{◌≡◌, sym, ◌∙◌, ap}
 use mathlib.Core.Bool.{true, cond}
 use mathlib.Core.Logic.{inl, inr}
@@ -12,7 +11,6 @@ use Rattle.channel.specs.Bins.{some_over}
 use Rattle.channel.specs.Row.{unknown_at}
 use Rattle.channel.proofs.Over.{some_none, some_more}
 use native.Mathlib.Omega.{arith}
-use borrow.Author.Rules.{rules}
 use Rattle.channel.proofs.any_unknown.Goals as goal
 use Rattle.channel.proofs.any_unknown.Goals.{else-row-bin-gt19, then-row-bin-gt19}
 

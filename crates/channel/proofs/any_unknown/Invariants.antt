@@ -1,18 +1,8 @@
 -- `channel::any_unknown` meets its contract. Assumes nothing.
 use Prim.Native.Nat.{◌≤◌, ◌-◌}
-use mathlib.Core.Path.{◌≡◌, sym, ◌∙◌, ap}
-use mathlib.Core.Bool.{true, cond}
-use mathlib.Core.Logic.{inl, inr}
-use borrow.Author.Tests.{lt-ltb, le-ltb}
-use native.Mathlib.Nat.{le_refl, le_antisymm}
-use lib.Dec.{ltb}
-use lib.ListN.{get_or}
-use Rattle.levels.proofs.Common.{chosen}
+use mathlib.Core.Path.{◌≡◌}
 use Rattle.channel.specs.Bins.{some_over}
 use Rattle.channel.specs.Row.{unknown_at}
-use Rattle.channel.proofs.Over.{some_none, some_more}
-use native.Mathlib.Omega.{arith}
-use borrow.Author.Rules.{rules}
 use Rattle.channel.proofs.any_unknown.Given as goal
 
 abbrev pub invariant-loop-bin : goal.invariant-loop-bin

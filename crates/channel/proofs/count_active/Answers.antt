@@ -1,6 +1,5 @@
 -- `channel::count_active` meets its contract. Assumes nothing.
-use Prim.Native.Nat.{◌≤◌, ◌-◌}
-use mathlib.Core.Path.{◌≡◌, refl, sym}
+use mathlib.Core.Path.{refl, sym}
 use lib.ListN.{get_or}
 use Rattle.gains.specs.Gains.{active}
 use Rattle.channel.specs.Row.{active_count, active_at}

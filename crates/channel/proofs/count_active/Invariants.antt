@@ -1,13 +1,7 @@
 -- `channel::count_active` meets its contract. Assumes nothing.
 use Prim.Native.Nat.{◌≤◌, ◌-◌}
-use mathlib.Core.Path.{◌≡◌, refl, sym}
-use lib.ListN.{get_or}
-use Rattle.gains.specs.Gains.{active}
-use Rattle.channel.specs.Row.{active_count, active_at}
-use Rattle.channel.proofs.Over.{one_small, sum_none, sum_end}
-use Rattle.channel.proofs.Rows.{rank_turn, count_most}
-use native.Mathlib.Omega.{arith}
-use borrow.Author.Rules.{rules}
+use mathlib.Core.Path.{◌≡◌}
+use Rattle.channel.specs.Row.{active_count}
 use Rattle.channel.proofs.count_active.Given as goal
 
 abbrev pub invariant-loop-bin : goal.invariant-loop-bin

@@ -1,6 +1,5 @@
 -- `channel::gains_used` meets its contract. Assumes nothing.
 use mathlib.Core.Path.{sym, ◌∙◌}
-use borrow.Author.Rules.{rules}
 use Rattle.channel.proofs.gains_used.Goals as goal
 
 pub returns-then-is_active : goal.returns-then-is_active

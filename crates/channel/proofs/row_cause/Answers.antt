@@ -1,7 +1,6 @@
 -- `channel::row_cause` meets its contract. Assumes nothing.
 use mathlib.Core.Path.{sym, ◌∙◌}
 use mathlib.Core.Bool.{true, false}
-use borrow.Author.Rules.{rules}
 use Rattle.channel.proofs.Rows.{cause_1, cause_2, cause_3_row, cause_3_other, cause_4_or_0}
 use Rattle.channel.proofs.row_cause.Goals as goal
 

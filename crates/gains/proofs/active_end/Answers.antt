@@ -1,6 +1,5 @@
 -- `gains::active_end` meets its contract. Assumes nothing.
 use mathlib.Core.Path.{◌∙◌}
-use borrow.Author.Rules.{rules}
 use borrow.Author.Tests.{ne_eqb}
 use Rattle.gains.proofs.active_end.Goals as goal
 

@@ -1,5 +1,4 @@
 -- `gains::endbap_for_gaqmod` meets its contract. Assumes nothing.
-use borrow.Author.Rules.{rules}
 use borrow.Author.Tests.{le-leb, lt-leb}
 use Rattle.gains.specs.Gains.{endbap_for_gaqmod}
 use Rattle.gains.proofs.endbap_for_gaqmod.Goals as goal

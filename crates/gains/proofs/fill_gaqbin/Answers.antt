@@ -1,16 +1,13 @@
 -- `gains::fill_gaqbin` meets its contract. Assumes nothing.
-use Prim.Native.Nat.{◌-◌, ◌≤◌}
 use mathlib.Core.Path.{◌≡◌, refl, sym, ap, ◌∙◌}
-use mathlib.Core.Logic.{⊎_elim}
 use borrow.Author.Tests.{lt-leb}
 use lib.ListN.{length, get_or, length-set}
 use mir.Syntax.{w8}
 use mir.Val.{to_z, of_z}
 use mir.ValLaws.{to_z-of_z}
 use Rattle.gains.specs.Gains.{gaqbin_of, fill_gaqbin, gaqbin_after}
-use Rattle.gains.proofs.Laws.{Marked, marked_start, marked_next, marked_all}
+use Rattle.gains.proofs.Laws.{marked_start, marked_next, marked_all}
 use native.Mathlib.Omega.{arith}
-use borrow.Author.Rules.{rules}
 use Rattle.gains.proofs.fill_gaqbin.Goals as goal
 use Rattle.gains.proofs.fill_gaqbin.Goals.{then-m-eq1, else-m-eq1}
 

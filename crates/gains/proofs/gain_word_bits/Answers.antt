@@ -1,6 +1,5 @@
 -- `gains::gain_word_bits` meets its contract. Assumes nothing.
 use borrow.Author.Tests.{ne_eqb}
-use borrow.Author.Rules.{rules}
 use native.Mathlib.Nat.{mul_comm, one-mul}
 use Rattle.gains.specs.Gains.{word_bits, sections, gain_word_bits}
 use Rattle.gains.proofs.gain_word_bits.Goals as goal

@@ -1,5 +1,4 @@
 -- `gains::gaq_gain_value` meets its contract. Assumes nothing.
-use borrow.Author.Rules.{rules}
 use borrow.Author.Tests.{le-leb, lt-leb}
 use Rattle.gains.specs.Gains.{gaq_gain_value}
 use Rattle.gains.proofs.gaq_gain_value.Goals as goal

@@ -1,7 +1,6 @@
 -- `gains::gaq_sections` meets its contract. Assumes nothing.
 use mathlib.Core.Path.{◌≡◌, ap}
 use native.Mathlib.Nat.{le_of_lt}
-use borrow.Author.Rules.{rules}
 use borrow.Author.Tests.{le-leb, lt-leb, ne_eqb}
 use native.Mathlib.Omega.{arith}
 use Rattle.gains.specs.Gains.{gaq_sections, sections}

@@ -1,6 +1,5 @@
 -- `gains::is_active` meets its contract. Assumes nothing.
 use native.Mathlib.Omega.{arith}
-use borrow.Author.Rules.{rules}
 use Rattle.gains.proofs.Cases.{active_low, active_by_end}
 use Rattle.gains.proofs.is_active.Goals as goal
 

@@ -1,7 +1,6 @@
 -- `gains::mark` meets its contract. Assumes nothing.
 use mathlib.Core.Bool.{and-false}
 use Prim.Native.Nat.{◌≤◌, ◌<◌}
-use borrow.Author.Rules.{rules}
 use borrow.Author.Tests.{lt-ltb, le-ltb, le-leb, lt-leb}
 use Rattle.gains.specs.Gains.{endbap, gaqbin_of}
 use Rattle.gains.proofs.mark.Goals as goal

@@ -2,7 +2,6 @@
 use mathlib.Core.Path.{sym}
 use mathlib.Core.List.{◌∷◌, []}
 use native.Mathlib.Omega.{arith}
-use borrow.Author.Rules.{rules}
 use Rattle.gains.proofs.Laws.{placed_one, placed_full}
 use Rattle.gains.proofs.put_code.Goals as goal
 

@@ -3,7 +3,6 @@ use mathlib.Core.Path.{◌∙◌}
 use mathlib.Core.List.{◌∷◌, []}
 use Rattle.gains.specs.Gains.{word_codes}
 use Rattle.gains.proofs.Laws.{filled_start, filled_more, filled_as, group_codes_lem, single_code}
-use borrow.Author.Rules.{rules}
 use Rattle.gains.proofs.put_word.Goals as goal
 
 pub returns-then-gaqmod-eq3 : goal.returns-then-gaqmod-eq3

@@ -1,5 +1,5 @@
 -- `gains::put_words` meets its contract. Assumes nothing.
-use Prim.Native.Nat.{ℕ, ◌+◌, ◌-◌, ◌*◌, ◌≤◌}
+use Prim.Native.Nat.{ℕ, ◌+◌, ◌*◌}
 use mathlib.Core.Path.{◌≡◌, sym, ap, ◌∙◌}
 use native.Mathlib.Nat.{zero-add}
 use denote.Enum.Declared.{tag_of}
@@ -8,7 +8,7 @@ use Rattle.bits.specs.Bits.{bits_of, number_of, bit_at, pos_of}
 use Rattle.bits.specs.declared.BitRead.TheVariants.{Number}
 use Rattle.bits.specs.contracts.BitRead.{the_type}
 use Rattle.gains.specs.Gains.{word_bits, word_codes, codes_from}
-use Rattle.gains.proofs.Laws.{Filled, filled_start, filled_length, filled_more, filled_as, filled_word, word_read, word_small, same_number}
+use Rattle.gains.proofs.Laws.{filled_start, filled_length, filled_more, filled_as, filled_word, word_read, word_small, same_number}
 use native.Mathlib.Omega.{arith}
 use borrow.Author.Rules.{rules}
 use Rattle.gains.proofs.put_words.Goals as goal

@@ -1,16 +1,10 @@
 -- `gains::put_words` meets its contract. Assumes nothing.
-use Prim.Native.Nat.{ℕ, ◌+◌, ◌-◌, ◌*◌, ◌≤◌}
-use mathlib.Core.Path.{◌≡◌, sym, ap, ◌∙◌}
-use native.Mathlib.Nat.{zero-add}
-use denote.Enum.Declared.{tag_of}
-use lib.ListN.{take, drop}
-use Rattle.bits.specs.Bits.{bits_of, number_of, bit_at, pos_of}
-use Rattle.bits.specs.declared.BitRead.TheVariants.{Number}
-use Rattle.bits.specs.contracts.BitRead.{the_type}
-use Rattle.gains.specs.Gains.{word_bits, word_codes, codes_from}
-use Rattle.gains.proofs.Laws.{Filled, filled_start, filled_length, filled_more, filled_as, filled_word, word_read, word_small, same_number}
-use native.Mathlib.Omega.{arith}
-use borrow.Author.Rules.{rules}
+use Prim.Native.Nat.{◌+◌, ◌-◌, ◌*◌, ◌≤◌}
+use mathlib.Core.Path.{◌≡◌}
+use lib.ListN.{drop}
+use Rattle.bits.specs.Bits.{bits_of, bit_at}
+use Rattle.gains.specs.Gains.{word_bits, codes_from}
+use Rattle.gains.proofs.Laws.{Filled}
 use Rattle.gains.proofs.put_words.Given as goal
 
 abbrev pub invariant-loop-i : goal.invariant-loop-i

@@ -1,5 +1,4 @@
 -- `gains::unpack` meets its contract. Assumes nothing.
-use borrow.Author.Rules.{rules}
 use Rattle.gains.proofs.unpack.Goals as goal
 
 pub returns : goal.returns

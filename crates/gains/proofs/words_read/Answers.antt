@@ -1,5 +1,4 @@
 -- `gains::words_read` meets its contract. Assumes nothing.
-use borrow.Author.Rules.{rules}
 use borrow.Author.Tests.{eq-eqb, ne_eqb}
 use Rattle.gains.specs.Gains.{words_read}
 use Rattle.gains.proofs.words_read.Goals as goal

@@ -1,14 +1,10 @@
 -- `levels::any_too_large` meets its contract: what was found, or is found from j on, is the whole. Assumes nothing.
-use Prim.Native.Nat.{◌-◌, ◌≤◌}
 use mathlib.Core.Path.{◌≡◌, refl}
-use mathlib.Core.Bool.{true, cond, ◌||◌}
+use mathlib.Core.Bool.{true, cond}
 use mathlib.Core.Logic.{inl, inr}
-use lib.ListN.{length, drop}
-use Rattle.levels.specs.Component.{some_too_large}
 use Rattle.levels.proofs.Range.{some_turn, some_end}
 use Rattle.levels.proofs.Common.{chosen}
 use native.Mathlib.Omega.{arith}
-use borrow.Author.Rules.{rules}
 use Rattle.levels.proofs.any_too_large.Goals as goal
 use Rattle.levels.proofs.any_too_large.Goals.{else-in_range, then-in_range}
 

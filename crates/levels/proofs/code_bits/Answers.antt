@@ -2,7 +2,6 @@
 use Prim.Native.Nat.{◌≤◌}
 use mathlib.Core.Path.{◌∙◌}
 use native.Mathlib.Omega.{arith}
-use borrow.Author.Rules.{rules}
 use borrow.Author.Tests.{eq-eqb, ne_eqb}
 use Rattle.tables.proofs.Rules.{mant_bits_lem}
 use Rattle.levels.proofs.Signed.{small_width, large_width}

@@ -3,7 +3,6 @@ use mir.Syntax.{w32}
 use mir.ValLaws.{to_z-of_z}
 use Rattle.levels.specs.Value.{divided}
 use Rattle.levels.proofs.Signed.{in_float_lem}
-use borrow.Author.Rules.{rules}
 use Rattle.levels.proofs.divided_code.Goals as goal
 
 pub int_to_float-result : goal.int_to_float-result

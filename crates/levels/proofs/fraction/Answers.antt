@@ -1,7 +1,6 @@
 -- `levels::fraction` meets its contract. Assumes nothing.
 use mathlib.Core.Path.{ap}
 use lib.Ieee.{binary32, of_bits}
-use borrow.Author.Rules.{rules}
 use Rattle.levels.proofs.fraction.Goals as goal
 
 pub float_from_bits-result : goal.float_from_bits-result

@@ -2,7 +2,6 @@
 use mathlib.Core.Path.{◌∙◌, ap}
 use Rattle.levels.specs.Work.{remap_by}
 use Rattle.levels.proofs.Remapping.{remap_by_lem}
-use borrow.Author.Rules.{rules}
 use Rattle.levels.proofs.gaq_remap.Goals as goal
 
 pub returns : goal.returns

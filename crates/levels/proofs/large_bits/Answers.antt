@@ -1,6 +1,5 @@
 -- `levels::large_bits` meets its contract. Assumes nothing.
 use borrow.Author.Tests.{eq-eqb, ne_eqb}
-use borrow.Author.Rules.{rules}
 use Rattle.levels.proofs.large_bits.Goals as goal
 
 pub returns-then-gk-eq2 : goal.returns-then-gk-eq2

@@ -1,6 +1,5 @@
 -- `levels::level_of` meets its contract. Assumes nothing.
 use mathlib.Core.Path.{ap, ◌∙◌}
-use borrow.Author.Rules.{rules}
 use mir.Syntax.{w32}
 use mir.Val.{to_z, of_z}
 use Rattle.levels.specs.declared.Level.{Level}

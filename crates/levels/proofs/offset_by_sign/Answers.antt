@@ -4,7 +4,6 @@ use lib.IntN.{ℤ, pos}
 use borrow.Author.Tests.{eq-eqb, ne_eqb}
 use mir.Syntax.{w16}
 use Rattle.levels.proofs.Signed.{by_test, back}
-use borrow.Author.Rules.{rules}
 use Rattle.levels.proofs.offset_by_sign.Goals as goal
 
 pub returns-then-gk-eq1 : goal.returns-then-gk-eq1

@@ -3,7 +3,6 @@ use mathlib.Core.Path.{ap}
 use mir.Syntax.{w16}
 use mir.ValLaws.{to_z-of_z}
 use Rattle.levels.specs.Value.{q15}
-use borrow.Author.Rules.{rules}
 use Rattle.levels.proofs.q15.Goals as goal
 
 pub returns : goal.returns

@@ -5,7 +5,6 @@ use Rattle.levels.specs.Exact.{slope, offset, offset_below}
 use Rattle.levels.specs.Value.{q15}
 use Rattle.levels.specs.Work.{remap_of}
 use Rattle.levels.proofs.Signed.{back}
-use borrow.Author.Rules.{rules}
 use Rattle.levels.proofs.remap_of.Goals as goal
 
 pub returns : goal.returns

@@ -1,7 +1,6 @@
 -- `levels::row_of` meets its contract. Assumes nothing.
 use borrow.Author.Tests.{eq-eqb, ne_eqb}
 use native.Mathlib.Omega.{arith}
-use borrow.Author.Rules.{rules}
 use Rattle.levels.proofs.row_of.Goals as goal
 
 pub returns-then-gk-eq1 : goal.returns-then-gk-eq1

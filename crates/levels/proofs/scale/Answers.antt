@@ -6,7 +6,6 @@ use lib.Dec.{le→leb, lit≤}
 use lib.IntN.{pos}
 use lib.Ieee.{binary32, in_float, of_int}
 use Rattle.levels.proofs.Signed.{pow2_cap}
-use borrow.Author.Rules.{rules}
 use Rattle.levels.proofs.scale.Goals as goal
 
 pub int_to_float-result : goal.int_to_float-result

@@ -2,7 +2,6 @@
 use borrow.Author.Tests.{eq-eqb, ne_eqb}
 use mir.Syntax.{w16}
 use Rattle.levels.proofs.Signed.{back}
-use borrow.Author.Rules.{rules}
 use Rattle.levels.proofs.slope_at.Goals as goal
 
 pub returns-then-gk-eq1 : goal.returns-then-gk-eq1

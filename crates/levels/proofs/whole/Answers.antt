@@ -4,7 +4,6 @@ use lib.IntN.{pos}
 use mir.Syntax.{w32}
 use mir.ValLaws.{to_z_pos}
 use native.Mathlib.Omega.{arith}
-use borrow.Author.Rules.{rules}
 use Rattle.levels.proofs.whole.Goals as goal
 
 pub returns : goal.returns

@@ -1,9 +1,6 @@
 -- `planner::any_too_large` meets its contract. Assumes nothing.
-use Rattle.channel.specs.Bins.{some_over}
 use Rattle.channel.proofs.Over.{some_none, some_turn, some_found, some_end}
-use Prim.Native.Nat.{◌≤◌, ◌-◌}
-use mathlib.Core.Path.{◌≡◌, sym, ◌∙◌}
-use mathlib.Core.Bool.{false}
+use mathlib.Core.Path.{sym, ◌∙◌}
 use Rattle.planner.specs.Planning.{too_large_at}
 use native.Mathlib.Omega.{arith}
 use borrow.Author.Rules.{rules}

@@ -2,7 +2,6 @@
 use mathlib.Core.Path.{sym, ◌∙◌}
 use mathlib.Core.Bool.{true, false}
 use Rattle.planner.proofs.Answer.{cause_row, cause_rest, cause_within}
-use borrow.Author.Rules.{rules}
 use Rattle.planner.proofs.cause.Goals as goal
 
 pub returns-then-k-ne0 : goal.returns-then-k-ne0

@@ -1,6 +1,5 @@
 -- `planner::choice_fits` meets its contract. Assumes nothing.
 use Rattle.planner.proofs.Chosen.{fits_mode, fits_count, fits_gains}
-use borrow.Author.Rules.{rules}
 use Rattle.planner.proofs.choice_fits.Goals as goal
 
 pub returns-then-mode-gt3 : goal.returns-then-mode-gt3

@@ -1,7 +1,6 @@
 -- `planner::plan_aht_channel` meets its contract. Assumes nothing.
 use mathlib.Core.Path.{sym, ◌∙◌}
 use Rattle.planner.proofs.Answer.{cause_none, planned_good, planned_refused}
-use borrow.Author.Rules.{rules}
 use Rattle.planner.proofs.plan_aht_channel.Goals as goal
 
 pub plan_bins-plan-requires : goal.plan_bins-plan-requires

@@ -2,7 +2,6 @@
 use mathlib.Core.Path.{◌≡◌, sym, ◌∙◌}
 use Rattle.planner.specs.Planning.{cause_of}
 use Rattle.planner.proofs.Answer.{cause_none, plan_cause_row, plan_cause_fit}
-use borrow.Author.Rules.{rules}
 use Rattle.planner.proofs.plan_cause.Goals as goal
 use Rattle.planner.proofs.plan_cause.Goals.{Else-k-ne0}
 

@@ -2,12 +2,10 @@
 use Prim.Native.Nat.{◌≤◌}
 use mathlib.Core.Path.{sym, ◌∙◌}
 use native.Mathlib.Nat.{le_trans, le_of_eq}
-use borrow.Author.Tests.{not-true, not-false}
 use Rattle.channel.proofs.Rows.{count_most}
 use Rattle.planner.proofs.Steps.{word_small, fits_sum}
 use Rattle.planner.proofs.Chosen.{fits_parts, fits_not, fits_payload, chosen_most}
 use native.Mathlib.Omega.{arith}
-use borrow.Author.Rules.{rules}
 use Rattle.planner.proofs.plan_fits.Goals as goal
 use Rattle.planner.proofs.plan_fits.Goals.{After-gains-3-1}
 

@@ -1,6 +1,5 @@
 -- `planner::refuse` meets its contract. Assumes nothing.
 use Rattle.planner.specs.Planning.{no_plan, refusal_of}
-use borrow.Author.Rules.{rules}
 use Rattle.planner.proofs.refuse.Goals as goal
 
 pub returns : goal.returns

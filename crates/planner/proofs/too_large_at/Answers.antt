@@ -1,6 +1,5 @@
 -- `planner::too_large_at` meets its contract. Assumes nothing.
 use Rattle.planner.proofs.Answer.{too_large_none, too_large_some}
-use borrow.Author.Rules.{rules}
 use Rattle.planner.proofs.too_large_at.Goals as goal
 
 pub returns-then-row-bin-eq0 : goal.returns-then-row-bin-eq0

@@ -1,5 +1,4 @@
 -- `quantiser::bin` meets its contract. Assumes nothing.
-use Rattle.std.proofs.Common.{rules}
 use Rattle.quantiser.specs.Quantise.{bin_picked}
 use Rattle.quantiser.proofs.bin.Goals as goal
 

@@ -1,7 +1,7 @@
 -- `quantiser::fill` meets its contract. Assumes nothing.
-use Rattle.std.proofs.Common.{◌-◌, length, sym, ◌∙◌, arith, rules}
+use Rattle.std.proofs.Common.{sym, ◌∙◌, arith}
 use lib.Ieee.{nan}
-use Rattle.quantiser.proofs.Bins.{Done, done_none, done_all, done_more, bits_most}
+use Rattle.quantiser.proofs.Bins.{done_none, done_all, done_more, bits_most}
 use Rattle.quantiser.proofs.Fixed.{steps_is, steps_names}
 use Rattle.quantiser.proofs.fill.Goals as goal
 

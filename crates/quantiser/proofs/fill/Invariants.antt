@@ -1,8 +1,6 @@
 -- `quantiser::fill` meets its contract. Assumes nothing.
-use Rattle.std.proofs.Common.{◌-◌, length, sym, ◌∙◌, arith, rules}
-use lib.Ieee.{nan}
-use Rattle.quantiser.proofs.Bins.{Done, done_none, done_all, done_more, bits_most}
-use Rattle.quantiser.proofs.Fixed.{steps_is, steps_names}
+use Rattle.std.proofs.Common.{◌-◌, length}
+use Rattle.quantiser.proofs.Bins.{Done}
 use Rattle.quantiser.proofs.fill.Given as goal
 
 abbrev pub invariant-loop-j : goal.invariant-loop-j

@@ -1,5 +1,5 @@
 -- `quantiser::quantise_scalar` meets its contract. Assumes nothing.
-use Rattle.std.proofs.Common.{◌≤◌, sym, ◌∙◌, rules}
+use Rattle.std.proofs.Common.{◌≤◌, sym, ◌∙◌}
 use borrow.Author.Tests.{not-true, not-false}
 use Rattle.levels.specs.Component.{too_large}
 use Rattle.quantiser.specs.Quantise.{quantised_up_to}

@@ -1,5 +1,5 @@
 -- `quantiser::steps_of` meets its contract. Assumes nothing.
-use Rattle.std.proofs.Common.{◌-◌, ◌≤◌, arith, lit<, rules}
+use Rattle.std.proofs.Common.{◌-◌, ◌≤◌, arith, lit<}
 use Rattle.tables.proofs.Rules.{mant_bits_lem}
 use Rattle.quantiser.proofs.Fixed.{scale_range, steps_are}
 use Rattle.quantiser.proofs.steps_of.Goals as goal

@@ -1,5 +1,5 @@
 -- `quantiser::unit` meets its contract. Assumes nothing.
-use Rattle.std.proofs.Common.{◌∙◌, lit<, rules, eq-eqb, ne_eqb}
+use Rattle.std.proofs.Common.{◌∙◌, lit<, eq-eqb, ne_eqb}
 use Rattle.quantiser.proofs.unit.Goals as goal
 
 pub returns-then-gk-eq1 : goal.returns-then-gk-eq1

@@ -1,5 +1,5 @@
 -- `quantiser::word` meets its contract. Assumes nothing.
-use Rattle.std.proofs.Common.{◌*◌, ◌^◌, ◌<◌, ◌≤◌, refl, ◌∙◌, arith, rules}
+use Rattle.std.proofs.Common.{◌*◌, ◌^◌, ◌<◌, ◌≤◌, refl, ◌∙◌, arith}
 use Rattle.levels.proofs.Signed.{pow2_cap}
 use Rattle.quantiser.proofs.Bounds.{best_one_small, best_large_small}
 use Rattle.quantiser.proofs.Fixed.{Fixed, fixed}

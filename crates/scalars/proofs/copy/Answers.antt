@@ -1,13 +1,10 @@
 -- `scalars::copy` meets its contract. Assumes nothing.
-use Prim.Native.Nat.{◌-◌, ◌≤◌}
-use mathlib.Core.Path.{◌≡◌, refl, ◌∙◌}
-use mathlib.Core.List.{◌++◌}
+use mathlib.Core.Path.{refl, ◌∙◌}
 use lib.Ieee.{nan}
-use lib.ListN.{length, take, drop, length-set}
+use lib.ListN.{length-set}
 use Rattle.bits.proofs.Copying.{copy_turn}
 use Rattle.scalars.proofs.Laws.{copy_end}
 use native.Mathlib.Omega.{arith}
-use borrow.Author.Rules.{rules}
 use Rattle.scalars.proofs.copy.Goals as goal
 
 pub loop-j-preserved : goal.loop-j-preserved

@@ -1,13 +1,8 @@
 -- `scalars::copy` meets its contract. Assumes nothing.
 use Prim.Native.Nat.{◌-◌, ◌≤◌}
-use mathlib.Core.Path.{◌≡◌, refl, ◌∙◌}
+use mathlib.Core.Path.{◌≡◌}
 use mathlib.Core.List.{◌++◌}
-use lib.Ieee.{nan}
-use lib.ListN.{length, take, drop, length-set}
-use Rattle.bits.proofs.Copying.{copy_turn}
-use Rattle.scalars.proofs.Laws.{copy_end}
-use native.Mathlib.Omega.{arith}
-use borrow.Author.Rules.{rules}
+use lib.ListN.{length, take, drop}
 use Rattle.scalars.proofs.copy.Given as goal
 
 abbrev pub invariant-loop-j : goal.invariant-loop-j

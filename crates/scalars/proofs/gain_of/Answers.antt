@@ -1,7 +1,6 @@
 -- `scalars::gain_of` meets its contract. Assumes nothing.
 use mathlib.Core.Path.{◌∙◌}
 use Rattle.scalars.proofs.Laws.{gain_none, gain_there}
-use borrow.Author.Rules.{rules}
 use Rattle.scalars.proofs.gain_of.Goals as goal
 
 pub returns-then-gaqbin-eq1 : goal.returns-then-gaqbin-eq1

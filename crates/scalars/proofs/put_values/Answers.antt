@@ -4,7 +4,6 @@ use lib.ListN.{set}
 use mir.Syntax.{w32}
 use mir.ValLaws.{to_z-of_z}
 use Rattle.levels.specs.Value.{value_in}
-use borrow.Author.Rules.{rules}
 use Rattle.scalars.proofs.put_values.Goals as goal
 
 pub returns : goal.returns

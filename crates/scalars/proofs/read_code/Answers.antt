@@ -5,7 +5,7 @@ use mathlib.Core.Bool.{Bool, true, false, cond}
 use mathlib.Core.Logic.{inl}
 use lib.Dec.{eqb}
 use lib.ListN.{length}
-use borrow.Author.Tests.{eq-eqb, ne_eqb, leb-true, leb-false, not-true, not-false}
+use borrow.Author.Tests.{eq-eqb, ne_eqb, leb-true, leb-false}
 use Rattle.bits.specs.Bits.{bit_at, pos_of}
 use Rattle.bits.proofs.Reading.{number_there, number_missing, behind_inside}
 use Rattle.tables.specs.Tables.{mant_bits}

@@ -1,15 +1,9 @@
 -- `scalars::read_each` meets its contract. The invariant is Six.SoFar: the codes read so far. Assumes nothing.
-use Prim.Native.Nat.{◌-◌, ◌*◌}
-use mathlib.Core.Path.{◌≡◌, refl, sym, ap, ◌∙◌}
-use lib.ListN.{length, drop}
-use Rattle.bits.specs.Bits.{bits_of, bit_at, Inside}
-use Rattle.bits.specs.Format.{got}
-use Rattle.tables.specs.Tables.{mant_bits}
-use Rattle.levels.specs.Codes.{coded}
-use Rattle.scalars.specs.Scalars.{code_in}
-use Rattle.scalars.proofs.Six.{SoFar, none_yet, in_lists, one_more_lem, cut, all_read, code_accepted}
-use native.Mathlib.Omega.{arith}
-use borrow.Author.Rules.{rules}
+use Prim.Native.Nat.{◌-◌}
+use mathlib.Core.Path.{◌≡◌}
+use lib.ListN.{length}
+use Rattle.bits.specs.Bits.{bit_at}
+use Rattle.scalars.proofs.Six.{SoFar}
 use Rattle.scalars.proofs.read_each.Given as goal
 
 abbrev pub invariant-loop-j : goal.invariant-loop-j

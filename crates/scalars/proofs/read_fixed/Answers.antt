@@ -1,5 +1,5 @@
 -- `scalars::read_fixed` meets its contract. The invariant is Six.SoFar: the codes read so far. Assumes nothing.
-use Prim.Native.Nat.{◌+◌, ◌-◌, ◌*◌, ◌≤◌}
+use Prim.Native.Nat.{◌+◌, ◌*◌, ◌≤◌}
 use mathlib.Core.Path.{◌≡◌, refl, ◌∙◌}
 use borrow.Author.Tests.{eq-eqb}
 use lib.ListN.{length, drop, length-set}
@@ -13,7 +13,7 @@ use Rattle.tables.proofs.Rules.{mant_bits_lem}
 use Rattle.levels.specs.declared.Code.{Code}
 use Rattle.levels.specs.Codes.{coded}
 use Rattle.levels.proofs.Common.{large_is}
-use Rattle.scalars.proofs.Six.{SoFar, none_yet, all_read, code_accepted}
+use Rattle.scalars.proofs.Six.{none_yet, all_read, code_accepted}
 use Rattle.scalars.proofs.Ahead.{number_at, fixed_read, turn}
 use native.Mathlib.Omega.{arith}
 use borrow.Author.Rules.{rules}

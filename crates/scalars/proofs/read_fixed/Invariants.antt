@@ -1,22 +1,9 @@
 -- `scalars::read_fixed` meets its contract. The invariant is Six.SoFar: the codes read so far. Assumes nothing.
 use Prim.Native.Nat.{◌+◌, ◌-◌, ◌*◌, ◌≤◌}
-use mathlib.Core.Path.{◌≡◌, refl, ◌∙◌}
-use borrow.Author.Tests.{eq-eqb}
-use lib.ListN.{length, drop, length-set}
-use mir.Syntax.{w32}
-use mir.ValLaws.{to_z-of_z}
-use Rattle.bits.specs.Bits.{bits_of, bit_at, pos_of, Inside}
-use Rattle.bits.specs.Format.{got}
-use Rattle.bits.proofs.Reading.{at_pos}
-use Rattle.tables.specs.Tables.{mant_bits}
-use Rattle.tables.proofs.Rules.{mant_bits_lem}
-use Rattle.levels.specs.declared.Code.{Code}
-use Rattle.levels.specs.Codes.{coded}
-use Rattle.levels.proofs.Common.{large_is}
-use Rattle.scalars.proofs.Six.{SoFar, none_yet, all_read, code_accepted}
-use Rattle.scalars.proofs.Ahead.{number_at, fixed_read, turn}
-use native.Mathlib.Omega.{arith}
-use borrow.Author.Rules.{rules}
+use mathlib.Core.Path.{◌≡◌}
+use lib.ListN.{length}
+use Rattle.bits.specs.Bits.{bit_at, pos_of}
+use Rattle.scalars.proofs.Six.{SoFar}
 use Rattle.scalars.proofs.read_fixed.Given as goal
 
 abbrev pub invariant-loop-j : goal.invariant-loop-j

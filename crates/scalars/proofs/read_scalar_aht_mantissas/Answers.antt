@@ -1,7 +1,6 @@
 -- `scalars::read_scalar_aht_mantissas` meets its contract. Assumes nothing.
 use mir.Syntax.{w8}
 use mir.ValLaws.{to_z-of_z}
-use borrow.Author.Rules.{rules}
 use Rattle.scalars.proofs.read_scalar_aht_mantissas.Goals as goal
 
 pub returns : goal.returns

@@ -1,5 +1,4 @@
 -- `scalars::read_six` meets its contract. Assumes nothing.
-use borrow.Author.Rules.{rules}
 use Rattle.scalars.proofs.read_six.Goals as goal
 
 pub read_fixed-requires : goal.read_fixed-requires

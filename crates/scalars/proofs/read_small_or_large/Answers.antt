@@ -1,5 +1,5 @@
 -- `scalars::read_small_or_large` meets its contract. The invariant is Six.SoFar, what was read. Assumes nothing.
-use Prim.Native.Nat.{◌+◌, ◌-◌, ◌*◌, ◌≤◌}
+use Prim.Native.Nat.{◌+◌, ◌*◌, ◌≤◌}
 use mathlib.Core.Path.{◌≡◌, refl, ◌∙◌}
 use lib.ListN.{length, drop}
 use Rattle.bits.specs.Bits.{bits_of, bit_at, pos_of, Inside}
@@ -7,7 +7,7 @@ use Rattle.bits.specs.Format.{got}
 use Rattle.bits.proofs.Reading.{at_pos}
 use Rattle.tables.specs.Tables.{mant_bits}
 use Rattle.levels.specs.Codes.{coded}
-use Rattle.scalars.proofs.Six.{SoFar, none_yet, in_lists, all_read, code_accepted}
+use Rattle.scalars.proofs.Six.{none_yet, in_lists, all_read, code_accepted}
 use Rattle.scalars.proofs.Ahead.{turn}
 use native.Mathlib.Omega.{arith}
 use borrow.Author.Rules.{rules}

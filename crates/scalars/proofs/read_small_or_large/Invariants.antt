@@ -1,16 +1,9 @@
 -- `scalars::read_small_or_large` meets its contract. The invariant is Six.SoFar, what was read. Assumes nothing.
 use Prim.Native.Nat.{◌+◌, ◌-◌, ◌*◌, ◌≤◌}
-use mathlib.Core.Path.{◌≡◌, refl, ◌∙◌}
-use lib.ListN.{length, drop}
-use Rattle.bits.specs.Bits.{bits_of, bit_at, pos_of, Inside}
-use Rattle.bits.specs.Format.{got}
-use Rattle.bits.proofs.Reading.{at_pos}
-use Rattle.tables.specs.Tables.{mant_bits}
-use Rattle.levels.specs.Codes.{coded}
-use Rattle.scalars.proofs.Six.{SoFar, none_yet, in_lists, all_read, code_accepted}
-use Rattle.scalars.proofs.Ahead.{turn}
-use native.Mathlib.Omega.{arith}
-use borrow.Author.Rules.{rules}
+use mathlib.Core.Path.{◌≡◌}
+use lib.ListN.{length}
+use Rattle.bits.specs.Bits.{bit_at, pos_of}
+use Rattle.scalars.proofs.Six.{SoFar}
 use Rattle.scalars.proofs.read_small_or_large.Given as goal
 
 abbrev pub invariant-loop-j : goal.invariant-loop-j

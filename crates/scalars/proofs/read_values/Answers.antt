@@ -8,7 +8,6 @@ use Rattle.levels.specs.Codes.{six}
 use Rattle.levels.proofs.Common.{scale_is, scale_names}
 use Rattle.scalars.proofs.Six.{values_none, values_all}
 use native.Mathlib.Omega.{arith}
-use borrow.Author.Rules.{rules}
 use Rattle.scalars.proofs.read_values.Goals as goal
 
 pub read_each-r-requires : goal.read_each-r-requires

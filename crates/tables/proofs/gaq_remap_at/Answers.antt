@@ -6,7 +6,6 @@ use lib.IntN.{pos}
 use lib.ListN.{get_or-eq_default}
 use mir.Syntax.{w16}
 use mir.ValLaws.{to_z-of_z}
-use borrow.Author.Rules.{rules}
 use Rattle.tables.specs.Numbers.{gaq_remap_table}
 use Rattle.tables.specs.Tables.{gaq_remap_at}
 use Rattle.tables.proofs.Rules.{remap_fits}

@@ -1,5 +1,4 @@
 -- `tables::hebap_from_address` meets its contract. Assumes nothing.
-use borrow.Author.Rules.{rules}
 use Rattle.tables.proofs.Address.{Known, known, too_low, too_high, psd_fits}
 use Rattle.tables.proofs.hebap_from_address.Goals as goal
 use Rattle.tables.proofs.hebap_from_address.Goals.{Else-mask_after_floor-gt65536}

@@ -4,7 +4,6 @@ use mathlib.Core.Path.{◌≡◌}
 use native.Mathlib.Omega.{arith}
 use Rattle.bits.specs.Bits.{bit_at}
 use Rattle.bits.proofs.Laws.{spread}
-use borrow.Author.Rules.{rules}
 use Rattle.bits.proofs.BitPos.advance.Goals as goal
 
 pub overflow_mul-part : goal.overflow_mul-part

@@ -3,7 +3,6 @@ use Prim.Native.Nat.{◌+◌, ◌/◌, ◌%◌}
 use mathlib.Core.Path.{◌≡◌}
 use Rattle.bits.specs.Bits.{bit_at}
 use native.Mathlib.Omega.{arith}
-use borrow.Author.Rules.{rules}
 use Rattle.bits.proofs.BitPos.advance_bits.Goals as goal
 
 pub returns : goal.returns

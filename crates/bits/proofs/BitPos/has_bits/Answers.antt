@@ -5,7 +5,6 @@ use borrow.Author.Tests.{lt-leb}
 use native.Mathlib.Omega.{arith}
 use Rattle.bits.specs.Bits.{bit_at}
 use Rattle.bits.proofs.Laws.{spread, leb_same}
-use borrow.Author.Rules.{rules}
 use Rattle.bits.proofs.BitPos.has_bits.Goals as goal
 
 pub returns-then-len-byte : goal.returns-then-len-byte

@@ -1,10 +1,9 @@
 -- `planner::fit::any_wrong` meets its contract. Assumes nothing.
-use Prim.Native.Nat.{ℕ, ◌≤◌, ◌-◌}
+use Prim.Native.Nat.{ℕ}
 use mathlib.Core.Path.{◌≡◌, sym, ◌∙◌, ap}
-use mathlib.Core.Bool.{false, not}
+use mathlib.Core.Bool.{not}
 use native.Mathlib.Omega.{arith}
 use Rattle.gains.specs.Gains.{allowed_gain}
-use Rattle.channel.specs.Bins.{some_over}
 use Rattle.channel.proofs.Over.{some_none, some_turn, some_found, some_end}
 use Rattle.planner.specs.Fit.{wrong_gain}
 use borrow.Author.Rules.{rules}

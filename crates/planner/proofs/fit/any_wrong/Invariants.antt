@@ -1,13 +1,9 @@
 -- `planner::fit::any_wrong` meets its contract. Assumes nothing.
-use Prim.Native.Nat.{ℕ, ◌≤◌, ◌-◌}
-use mathlib.Core.Path.{◌≡◌, sym, ◌∙◌, ap}
-use mathlib.Core.Bool.{false, not}
-use native.Mathlib.Omega.{arith}
-use Rattle.gains.specs.Gains.{allowed_gain}
+use Prim.Native.Nat.{◌≤◌, ◌-◌}
+use mathlib.Core.Path.{◌≡◌}
+use mathlib.Core.Bool.{false}
 use Rattle.channel.specs.Bins.{some_over}
-use Rattle.channel.proofs.Over.{some_none, some_turn, some_found, some_end}
 use Rattle.planner.specs.Fit.{wrong_gain}
-use borrow.Author.Rules.{rules}
 use Rattle.planner.proofs.fit.any_wrong.Given as goal
 
 abbrev pub invariant-loop-i : goal.invariant-loop-i

@@ -1,6 +1,5 @@
 -- `planner::one_bin::best_gain` meets its contract. Assumes nothing.
 use Rattle.planner.proofs.Steps.{gain_1, gain_2, gain_3, gain_none}
-use borrow.Author.Rules.{rules}
 use Rattle.planner.proofs.one_bin.best_gain.Goals as goal
 
 pub returns-in-1 : goal.returns-in-1

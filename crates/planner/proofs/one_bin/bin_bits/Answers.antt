@@ -6,7 +6,6 @@ use Rattle.gains.proofs.Cases.{active_range}
 use Rattle.planner.specs.Cost.{bin_bits}
 use Rattle.planner.proofs.Codes.{bin_scalar}
 use Rattle.planner.proofs.Steps.{plain_is}
-use borrow.Author.Rules.{rules}
 use Rattle.planner.proofs.one_bin.bin_bits.Goals as goal
 
 pub gain_bits-requires : goal.gain_bits-requires

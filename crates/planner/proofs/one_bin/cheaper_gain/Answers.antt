@@ -1,7 +1,6 @@
 -- `planner::one_bin::cheaper_gain` meets its contract. Assumes nothing.
 use Rattle.planner.specs.Work.{cost_in}
 use Rattle.planner.proofs.Steps.{take_next, keep_first}
-use borrow.Author.Rules.{rules}
 use Rattle.planner.proofs.one_bin.cheaper_gain.Goals as goal
 
 pub returns-then-cost_at : goal.returns-then-cost_at

@@ -2,7 +2,6 @@
 use Prim.Native.Nat.{◌≤◌}
 use Rattle.planner.proofs.Steps.{width, bits_1, bits_2, bits_4}
 use native.Mathlib.Omega.{arith}
-use borrow.Author.Rules.{rules}
 use Rattle.planner.proofs.one_bin.gain_bits.Goals as goal
 
 pub overflow_mul-result : goal.overflow_mul-result

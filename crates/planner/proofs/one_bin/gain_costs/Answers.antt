@@ -2,7 +2,6 @@
 use Prim.Native.Nat.{◌≤◌}
 use Rattle.planner.proofs.Steps.{width, costs_are}
 use native.Mathlib.Omega.{arith}
-use borrow.Author.Rules.{rules}
 use Rattle.planner.proofs.one_bin.gain_costs.Goals as goal
 use Rattle.planner.proofs.one_bin.gain_costs.Goals.{After-limits_for-l}
 

@@ -5,7 +5,6 @@ use native.Mathlib.Omega.{arith}
 use borrow.Author.Tests.{le-leb, lt-leb}
 use Rattle.planner.specs.Work.{plain_bits}
 use Rattle.planner.proofs.Codes.{mant_most}
-use borrow.Author.Rules.{rules}
 use Rattle.planner.proofs.one_bin.plain_bits.Goals as goal
 
 pub returns-then-hebap-le7 : goal.returns-then-hebap-le7

@@ -1,12 +1,10 @@
 -- `planner::tally::best_mode` meets its contract. Assumes nothing.
-use Prim.Native.Nat.{◌≤◌, ◌-◌}
-use mathlib.Core.Path.{◌≡◌, refl, ◌∙◌, ap}
+use mathlib.Core.Path.{refl, ◌∙◌, ap}
 use native.Mathlib.Nat.{le_refl, le_antisymm}
 use Rattle.planner.specs.Choice.{least_up_to}
 use Rattle.planner.specs.Work.{payload_in}
 use Rattle.planner.proofs.Steps.{least_taken, least_kept}
 use native.Mathlib.Omega.{arith}
-use borrow.Author.Rules.{rules}
 use Rattle.planner.proofs.tally.best_mode.Goals as goal
 
 pub loop-mode-init : goal.loop-mode-init

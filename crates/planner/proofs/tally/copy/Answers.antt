@@ -1,13 +1,12 @@
 -- `planner::tally::copy` meets its contract. Assumes nothing.
-use Prim.Native.Nat.{ℕ, ◌≤◌, ◌-◌}
-use mathlib.Core.Path.{◌≡◌, refl, ◌∙◌, ap}
+use Prim.Native.Nat.{ℕ}
+use mathlib.Core.Path.{refl, ◌∙◌, ap}
 use mathlib.Core.List.{List, ◌++◌}
 use native.Mathlib.Nat.{le_refl, le_antisymm}
 use lib.ListN.{length, take, drop, length-set}
 use lib.Seq.{take_all}
 use Rattle.bits.proofs.Copying.{copy_turn}
 use native.Mathlib.Omega.{arith}
-use borrow.Author.Rules.{rules}
 use Rattle.planner.proofs.tally.copy.Goals as goal
 
 pub loop-i-init : goal.loop-i-init

@@ -1,6 +1,5 @@
 -- `planner::tally::gains_from` meets its contract. Assumes nothing.
 use Rattle.planner.proofs.Tallies.{gains_copied}
-use borrow.Author.Rules.{rules}
 use Rattle.planner.proofs.tally.gains_from.Goals as goal
 
 pub returns : goal.returns

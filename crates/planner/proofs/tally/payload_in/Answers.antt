@@ -6,7 +6,6 @@ use lib.ListN.{get_or}
 use Rattle.planner.specs.Work.{payload_in}
 use Rattle.planner.proofs.Steps.{fits_sum, word_small}
 use native.Mathlib.Omega.{arith}
-use borrow.Author.Rules.{rules}
 use Rattle.planner.proofs.tally.payload_in.Goals as goal
 
 pub overflow_add-result : goal.overflow_add-result

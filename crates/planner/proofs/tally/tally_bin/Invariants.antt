@@ -1,11 +1,7 @@
 -- `planner::tally::tally_bin` meets its contract. Assumes nothing.
 use Prim.Native.Nat.{◌≤◌, ◌-◌}
-use mathlib.Core.Path.{sym, ◌∙◌}
 use lib.Dec.{ltb}
 use Rattle.planner.specs.Work.{mode_at, OneBinMore, FourModes}
-use Rattle.planner.proofs.Tallies.{counted_none, next_small, counted_turn, counted_all}
-use native.Mathlib.Omega.{arith}
-use borrow.Author.Rules.{rules}
 use Rattle.planner.proofs.tally.tally_bin.Given as goal
 
 abbrev pub invariant-loop-mode : goal.invariant-loop-mode

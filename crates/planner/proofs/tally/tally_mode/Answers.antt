@@ -6,7 +6,6 @@ use Rattle.planner.specs.Work.{mode_at}
 use Rattle.planner.proofs.Steps.{cost_small}
 use Rattle.planner.proofs.Tallies.{count_one, count_none, room_one, room_none}
 use native.Mathlib.Omega.{arith}
-use borrow.Author.Rules.{rules}
 use Rattle.planner.proofs.tally.tally_mode.Goals as goal
 
 pub overflow_cast-kept : goal.overflow_cast-kept

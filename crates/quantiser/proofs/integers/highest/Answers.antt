@@ -1,5 +1,5 @@
 -- `quantiser::integers::highest` meets its contract. Assumes nothing.
-use Rattle.std.proofs.Common.{ℕ, ◌-◌, ◌≤◌, ap, arith, rules}
+use Rattle.std.proofs.Common.{ℕ, ◌-◌, ◌≤◌, ap, arith}
 use Rattle.quantiser.proofs.Ints.{power_range, cast_is}
 use Rattle.quantiser.proofs.integers.highest.Goals as goal
 use Rattle.quantiser.proofs.integers.highest.Goals.{After-pow2}

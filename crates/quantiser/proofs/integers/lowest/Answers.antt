@@ -1,5 +1,5 @@
 -- `quantiser::integers::lowest` meets its contract. Assumes nothing.
-use Rattle.std.proofs.Common.{◌≤◌, arith, rules}
+use Rattle.std.proofs.Common.{◌≤◌, arith}
 use Rattle.quantiser.proofs.Ints.{power_range, minus_fits, minus_back}
 use Rattle.quantiser.proofs.integers.lowest.Goals as goal
 use Rattle.quantiser.proofs.integers.lowest.Goals.{After-pow2}

@@ -1,5 +1,5 @@
 -- `quantiser::integers::opposite` meets its contract. Assumes nothing.
-use Rattle.std.proofs.Common.{ℕ, ◌-◌, ◌≤◌, ap, arith, rules}
+use Rattle.std.proofs.Common.{ℕ, ◌-◌, ◌≤◌, ap, arith}
 use Rattle.quantiser.proofs.Ints.{power_range, minus_fits, minus_back}
 use Rattle.quantiser.proofs.integers.opposite.Goals as goal
 use Rattle.quantiser.proofs.integers.opposite.Goals.{After-pow2}

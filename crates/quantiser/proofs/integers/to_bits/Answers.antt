@@ -1,5 +1,5 @@
 -- `quantiser::integers::to_bits` meets its contract. Assumes nothing.
-use Rattle.std.proofs.Common.{◌+ℤ◌, w64, to_z, rules}
+use Rattle.std.proofs.Common.{◌+ℤ◌, w64, to_z}
 use Rattle.quantiser.proofs.Ints.{held, InBits, in_bits_below, in_bits_above}
 use Rattle.quantiser.proofs.integers.to_bits.Goals as goal
 use Rattle.quantiser.proofs.integers.to_bits.Goals.{After-pow2-p, Else-v-lt0}

@@ -1,5 +1,5 @@
 -- `quantiser::pick::estimate_large` meets its contract. Assumes nothing.
-use Rattle.std.proofs.Common.{◌≡◌, ℕ, ◌-◌, ◌^◌, ◌<◌, true, false, ℤ, pos, negsuc, ◌+ℤ◌, neg_ℤ, arith, w64, SFits, rules}
+use Rattle.std.proofs.Common.{◌≡◌, ℕ, ◌-◌, ◌^◌, ◌<◌, true, false, ℤ, pos, negsuc, ◌+ℤ◌, neg_ℤ, arith, w64, SFits}
 use lib.Ieee.{Float, binary32, sub, div, le}
 use lib.IntN.{+ℤ_comm}
 use lib.Signed.{mag}

@@ -1,5 +1,5 @@
 -- `quantiser::pick::is_small` meets its contract. Assumes nothing.
-use Rattle.std.proofs.Common.{◌≡◌, ℕ, ◌-◌, ◌^◌, true, false, ℤ, pos, neg_ℤ, arith, w64, to_z, rules}
+use Rattle.std.proofs.Common.{◌≡◌, ℕ, ◌-◌, ◌^◌, true, false, ℤ, pos, neg_ℤ, arith, w64, to_z}
 use lib.Signed.{lt_z}
 use mir.ValLaws.{to_z-of_z}
 use Rattle.quantiser.specs.Quantise.{is_small}

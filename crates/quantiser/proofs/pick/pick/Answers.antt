@@ -1,5 +1,5 @@
 -- `quantiser::pick::pick` meets its contract. Assumes nothing.
-use Rattle.std.proofs.Common.{◌≡◌, ◌-◌, ◌^◌, ◌≤◌, ap, ◌∙◌, arith, rules}
+use Rattle.std.proofs.Common.{◌≡◌, ◌-◌, ◌^◌, ◌≤◌, ap, ◌∙◌, arith}
 use Rattle.tables.proofs.Rules.{mant_bits_lem}
 use Rattle.tables.specs.Tables.{mant_bits}
 use Rattle.levels.specs.Value.{divided}

@@ -1,5 +1,5 @@
 -- `quantiser::pick::search_large` meets its contract. Assumes nothing.
-use Rattle.std.proofs.Common.{◌≤◌, arith, rules}
+use Rattle.std.proofs.Common.{◌≤◌, arith}
 use Rattle.quantiser.specs.Quantise.{best_large}
 use Rattle.quantiser.proofs.Bounds.{est_large_small}
 use Rattle.quantiser.proofs.Fixed.{fixed}

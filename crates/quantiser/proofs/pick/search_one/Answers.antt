@@ -1,5 +1,5 @@
 -- `quantiser::pick::search_one` meets its contract. Assumes nothing.
-use Rattle.std.proofs.Common.{◌≡◌, ℕ, true, false, cond, ◌⊎◌, ℤ, pos, ap, ◌∙◌, inl, inr, lit<, w64, to_z, rules}
+use Rattle.std.proofs.Common.{◌≡◌, ℕ, true, false, cond, ◌⊎◌, ℤ, pos, ap, ◌∙◌, inl, inr, lit<, w64, to_z}
 use lib.Ieee.{Float, binary32, div, lt}
 use Rattle.levels.specs.Value.{f0}
 use Rattle.quantiser.specs.Quantise.{unit_of, est_one, best_one}

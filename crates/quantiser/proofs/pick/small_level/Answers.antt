@@ -1,5 +1,5 @@
 -- `quantiser::pick::small_level` meets its contract. Assumes nothing.
-use Rattle.std.proofs.Common.{ap, ◌∙◌, rules}
+use Rattle.std.proofs.Common.{ap, ◌∙◌}
 use lib.Ieee.{Float, binary32, mul}
 use Rattle.quantiser.specs.Quantise.{small_of}
 use Rattle.quantiser.specs.Round.{round_away}

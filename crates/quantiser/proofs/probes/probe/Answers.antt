@@ -1,5 +1,5 @@
 -- `quantiser::probes::probe` meets its contract. Assumes nothing.
-use Rattle.std.proofs.Common.{◌≡◌, ◌^◌, true, false, ◌∙◌, w64, rules}
+use Rattle.std.proofs.Common.{◌≡◌, ◌^◌, true, false, ◌∙◌, w64}
 use mir.ValLaws.{to_z-of_z}
 use Rattle.quantiser.specs.Quantise.{clamp_z, value_at}
 use Rattle.quantiser.proofs.Fixed.{fixed}

@@ -1,5 +1,5 @@
 -- `quantiser::probes::value` meets its contract. Assumes nothing.
-use Rattle.std.proofs.Common.{◌≡◌, ◌^◌, ◌<◌, ap, ◌∙◌, w32, w64, to_z, of_z, rules}
+use Rattle.std.proofs.Common.{◌≡◌, ◌^◌, ◌<◌, ap, ◌∙◌, w32, w64, to_z, of_z}
 use lib.Signed.{mag}
 use mir.ValLaws.{to_z-of_z}
 use Rattle.levels.proofs.Signed.{in_float_lem}

@@ -1,5 +1,5 @@
 -- `quantiser::reals::abs` meets its contract. Assumes nothing.
-use Rattle.std.proofs.Common.{T, sym, ap, ◌∙◌, subst, inl, inr}
+use Rattle.std.proofs.Common.{T, sym, ap, ◌∙◌, subst}
 use lib.Ieee.{Float, eq}
 use Rattle.levels.specs.Value.{f0}
 use Rattle.quantiser.proofs.Floats.{abs_below, abs_zero, abs_other, below_not_zero}

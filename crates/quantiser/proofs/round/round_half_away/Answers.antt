@@ -1,5 +1,5 @@
 -- `quantiser::round::round_half_away` meets its contract. Assumes nothing.
-use Rattle.std.proofs.Common.{◌≡◌, ℕ, ◌≤◌, min, true, false, T, pos, sym, ap, ◌∙◌, subst, inl, inr, true≢false, arith, rules}
+use Rattle.std.proofs.Common.{◌≡◌, ℕ, ◌≤◌, min, true, false, T, pos, sym, ap, ◌∙◌, subst, true≢false, arith}
 use lib.Ieee.{Float, of_bits, neg, lt}
 use Rattle.levels.specs.Value.{f0}
 use Rattle.quantiser.specs.Round.{round_mag, round_away}
