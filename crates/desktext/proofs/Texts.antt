@@ -11,7 +11,7 @@ use borrow.Author.Tests.{le-leb, lt-leb, ne_eqb, leb-true}
 use Rattle.desktext.specs.Spelling.{largest, last_number, channel_token, bins_token, row_token, close_token, TextOf, nested}
 use Rattle.desktext.specs.Printed.{IsText, AllIn, form, vector_forms, channel_tokens, InLimits}
 use Rattle.desktext.specs.Text.{ReadText, got, malformed, tokens}
-use Rattle.desktext.specs.Channel.{TextChannel, text_answer, numbers, channel, none, channel_in, on_got}
+use Rattle.desktext.specs.Channel.{TextChannel, text_answer, channel, none, channel_in, on_got}
 use Rattle.desktext.specs.declared.DeskText.{DeskText}
 use Rattle.desktext.proofs.Spelt.{tokens_spelt}
 use Rattle.desktext.proofs.Back.{tokens_back}

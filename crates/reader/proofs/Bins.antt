@@ -4,14 +4,13 @@ use mathlib.Core.Path.{◌≡◌, refl, sym, ap, ◌∙◌}
 use mathlib.Core.Bool.{Bool}
 use mathlib.Core.List.{List, [], ◌∷◌, ◌++◌, append_assoc, append-nil}
 use native.Mathlib.Omega.{arith}
-use lib.ListN.{length, get_or, drop, length-append, length-drop}
-use lib.Seq.{drop-drop, drop-append_seam}
+use lib.ListN.{length, get_or, drop, length-append}
 use Rattle.bits.specs.Bits.{bits_of, bit_at, pos_of, splice, Inside}
-use Rattle.bits.specs.Format.{Got, got, refused, Format, each_dec}
+use Rattle.bits.specs.Format.{Got, got, refused, each_dec}
 use Rattle.bits.specs.Work.{resume}
 use Rattle.bits.specs.declared.BitPos.{BitPos}
-use Rattle.bits.proofs.Laws.{length_bits_of, splice_none, splice_more}
-use Rattle.bits.proofs.Lawful.{Lawful, resume_none, resume_next, resume_stop, resume_done}
+use Rattle.bits.proofs.Laws.{splice_none, splice_more}
+use Rattle.bits.proofs.Lawful.{resume_none, resume_next, resume_stop, resume_done}
 use Rattle.bits.proofs.Reading.{next_is, pos_is}
 use Rattle.bits.specs.declared.BitMove.{BitMove}
 use Rattle.bits.specs.Format.{move_answer}

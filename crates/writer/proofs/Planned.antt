@@ -10,7 +10,6 @@ use lib.Ieee.{Float}
 use lib.Dec.{eqb, leb}
 use lib.ListN.{length, take, drop}
 use borrow.Author.Tests.{eqb-true, leb-true}
-use Rattle.answers.specs.Causes as cause
 use Rattle.bits.specs.Bits.{bits_of, splice, pos_of, bytes_with}
 use Rattle.bits.proofs.Laws.{length_bits_of, bits_with, splice_before, splice_after}
 use Rattle.bits.proofs.Reading.{at_pos}

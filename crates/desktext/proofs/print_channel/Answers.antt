@@ -1,5 +1,4 @@
 -- `desktext::print_channel` meets its contract. Assumes nothing.
-use borrow.Author.Rules.{rules}
 use mathlib.Core.Path.{◌≡◌, ap, ◌∙◌}
 use lib.ListN.{length}
 use Rattle.bits.specs.Bits.{splice}

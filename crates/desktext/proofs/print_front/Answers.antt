@@ -1,7 +1,6 @@
 -- `desktext::print_front` meets its contract. Assumes nothing.
 use mathlib.Core.Path.{sym}
 use lib.Seq.{length-take-le}
-use borrow.Author.Rules.{rules}
 use Rattle.desktext.proofs.print_front.Goals as goal
 
 pub slice_bounds-print_channel-end : goal.slice_bounds-print_channel-end

@@ -1,5 +1,4 @@
 -- `desktext::print_on_pages` meets its contract. Assumes nothing.
-use borrow.Author.Rules.{rules}
 use Rattle.desktext.proofs.Answers.{pages_never_refused, pages_given}
 use Rattle.desktext.proofs.print_on_pages.Goals as goal
 

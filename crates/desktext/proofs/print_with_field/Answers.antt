@@ -1,6 +1,5 @@
 -- `desktext::print_with_field` meets its contract. Assumes nothing.
 use native.Mathlib.Omega.{arith}
-use borrow.Author.Rules.{rules}
 use native.Mathlib.Nat.{le_trans, le_of_eq}
 use mathlib.Core.Path.{sym, ap, ◌∙◌}
 use lib.ListN.{length}

@@ -3,7 +3,6 @@ use Prim.Native.Nat.{◌≤◌}
 use mathlib.Core.Path.{◌≡◌, sym}
 use lib.Seq.{length-take-le}
 use lib.ListN.{length, take}
-use borrow.Author.Rules.{rules}
 use Rattle.desktext.specs.Channel.{channel_from, channel_in}
 use Rattle.desktext.proofs.Outputs.{same_outputs, channel_broken, channel_listed}
 use Rattle.desktext.proofs.Longest.{channel_too_long}

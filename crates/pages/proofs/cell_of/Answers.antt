@@ -1,5 +1,4 @@
 -- `pages::cell_of` meets its contract. Assumes nothing.
-use borrow.Author.Rules.{rules}
 use mathlib.Core.Path.{◌≡◌, sym, ◌∙◌}
 use mathlib.Core.Bool.{cond}
 use mathlib.Core.Logic.{inl, inr}

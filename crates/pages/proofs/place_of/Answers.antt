@@ -1,6 +1,5 @@
 -- `pages::place_of` meets its contract. Assumes nothing.
 use native.Mathlib.Omega.{arith}
-use borrow.Author.Rules.{rules}
 use Rattle.pages.specs.Pages.{place_at}
 use Rattle.pages.proofs.place_of.Goals as goal
 

@@ -1,13 +1,9 @@
 -- `pages::put_blank` meets its contract. Assumes nothing.
-use native.Mathlib.Omega.{arith}
-use borrow.Author.Rules.{rules}
-use Prim.Native.Nat.{◌+◌, ◌-◌, ◌*◌, ◌≤◌}
-use native.Mathlib.Nat.{le_antisymm}
-use mathlib.Core.Path.{◌≡◌, refl, ap, ◌∙◌}
-use lib.ListN.{length, length-set}
+use Prim.Native.Nat.{◌-◌, ◌≤◌}
+use mathlib.Core.Path.{◌≡◌}
+use lib.ListN.{length}
 use Rattle.bits.specs.Bits.{splice}
 use Rattle.pages.specs.Work.{blank_lines}
-use Rattle.pages.proofs.Cells.{blank_none, blank_turn}
 use Rattle.pages.proofs.put_blank.Given as goal
 
 abbrev pub invariant-loop-i : goal.invariant-loop-i

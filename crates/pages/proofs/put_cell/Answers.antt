@@ -1,5 +1,4 @@
 -- `pages::put_cell` meets its contract. Assumes nothing.
-use borrow.Author.Rules.{rules}
 use Rattle.pages.proofs.Cells.{cell_put}
 use Rattle.pages.proofs.put_cell.Goals as goal
 

@@ -2,11 +2,10 @@
 use native.Mathlib.Omega.{arith}
 use native.Mathlib.Nat.{le_refl, le_antisymm}
 use borrow.Author.Rules.{rules}
-use Prim.Native.Nat.{◌-◌, ◌≤◌}
+use Prim.Native.Nat.{◌-◌}
 use mathlib.Core.Path.{◌≡◌, refl, sym, ap, ◌∙◌}
 use lib.ListN.{length, get_or}
 use Rattle.gains.specs.Gains.{active}
-use Rattle.channel.specs.Row.{active_count}
 use Rattle.channel.proofs.Over.{one_small}
 use Rattle.channel.proofs.Rows.{count_most, count_start, rank_turn}
 use Rattle.pages.specs.Pages.{cell_text_at}

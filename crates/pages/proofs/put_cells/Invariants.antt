@@ -1,17 +1,10 @@
 -- `pages::put_cells` meets its contract. Assumes nothing.
-use native.Mathlib.Omega.{arith}
-use native.Mathlib.Nat.{le_refl, le_antisymm}
-use borrow.Author.Rules.{rules}
 use Prim.Native.Nat.{◌-◌, ◌≤◌}
-use mathlib.Core.Path.{◌≡◌, refl, sym, ap, ◌∙◌}
-use lib.ListN.{length, get_or}
-use Rattle.gains.specs.Gains.{active}
+use mathlib.Core.Path.{◌≡◌}
+use lib.ListN.{length}
 use Rattle.channel.specs.Row.{active_count}
-use Rattle.channel.proofs.Over.{one_small}
-use Rattle.channel.proofs.Rows.{count_most, count_start, rank_turn}
 use Rattle.pages.specs.Pages.{cell_text_at}
 use Rattle.pages.specs.Work.{with_cells}
-use Rattle.pages.proofs.Lines.{place_next, cells_none, cells_turn}
 use Rattle.pages.proofs.put_cells.Given as goal
 
 abbrev pub invariant-loop-bin : goal.invariant-loop-bin

@@ -1,6 +1,5 @@
 -- `pages::put_gain` meets its contract. Assumes nothing.
 use native.Mathlib.Omega.{arith}
-use borrow.Author.Rules.{rules}
 use lib.ListN.{length-set}
 use Rattle.pages.proofs.Cells.{gain_dash, gain_shown}
 use Rattle.pages.proofs.put_gain.Goals as goal

@@ -1,6 +1,5 @@
 -- `pages::put_part` meets its contract. Assumes nothing.
 use native.Mathlib.Omega.{arith}
-use borrow.Author.Rules.{rules}
 use mathlib.Core.Path.{◌∙◌}
 use lib.ListN.{length-set}
 use Rattle.pages.proofs.Cells.{part_put}

@@ -1,14 +1,9 @@
 -- `pages::put_spaces` meets its contract. Assumes nothing.
-use native.Mathlib.Omega.{arith}
-use borrow.Author.Rules.{rules}
-use Prim.Native.Nat.{◌+◌, ◌-◌, ◌≤◌}
-use native.Mathlib.Nat.{le_antisymm}
-use mathlib.Core.Path.{◌≡◌, refl, sym, ap, ◌∙◌}
-use lib.ListN.{length, length-set}
+use Prim.Native.Nat.{◌-◌, ◌≤◌}
+use mathlib.Core.Path.{◌≡◌}
+use lib.ListN.{length}
 use Rattle.bits.specs.Bits.{splice}
-use Rattle.bits.proofs.Laws.{splice_none}
 use Rattle.pages.specs.Pages.{spaces}
-use Rattle.pages.proofs.Cells.{spaces_turn}
 use Rattle.pages.proofs.put_spaces.Given as goal
 
 abbrev pub invariant-loop-i : goal.invariant-loop-i

@@ -1,5 +1,4 @@
 -- `plantext::hex` meets its contract. Assumes nothing.
-use borrow.Author.Rules.{rules}
 use borrow.Author.Tests.{le-leb, lt-leb}
 use Rattle.plantext.specs.PlanText.{hex_of}
 use Rattle.plantext.proofs.hex.Goals as goal

@@ -1,5 +1,4 @@
 -- `plantext::print_refused` meets its contract. Assumes nothing.
-use borrow.Author.Rules.{rules}
 use mathlib.Core.Path.{◌∙◌}
 use native.Mathlib.Nat.{zero-add}
 use Rattle.plantext.specs.PlanText.{refused_text}

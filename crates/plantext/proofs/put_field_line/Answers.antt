@@ -1,6 +1,5 @@
 -- `plantext::put_field_line` meets its contract. Assumes nothing.
 use native.Mathlib.Omega.{arith}
-use borrow.Author.Rules.{rules}
 use Prim.Native.Nat.{◌+◌, ◌*◌}
 use lib.ListN.{length}
 use native.Mathlib.Nat.{le_of_eq}

@@ -1,10 +1,8 @@
 -- `plantext::put_gains` meets its contract. Assumes nothing.
 use native.Mathlib.Omega.{arith}
-use borrow.Author.Rules.{rules}
-use Prim.Native.Nat.{◌+◌, ◌*◌, ◌≤◌, ◌-◌}
 use mathlib.Core.Path.{◌≡◌, refl, ◌∙◌}
 use mathlib.Core.List.{[], ◌∷◌}
-use lib.ListN.{length, get_or, take}
+use lib.ListN.{length, get_or}
 use lib.Seq.{take_all}
 use Rattle.plantext.specs.PlanText.{spaced}
 use Rattle.plantext.proofs.Printing.{Put, put_done, put_part, spaced_fits, spaced_none, spaced_turn}

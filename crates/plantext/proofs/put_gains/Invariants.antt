@@ -1,13 +1,9 @@
 -- `plantext::put_gains` meets its contract. Assumes nothing.
-use native.Mathlib.Omega.{arith}
-use borrow.Author.Rules.{rules}
 use Prim.Native.Nat.{◌+◌, ◌*◌, ◌≤◌, ◌-◌}
-use mathlib.Core.Path.{◌≡◌, refl, ◌∙◌}
-use mathlib.Core.List.{[], ◌∷◌}
-use lib.ListN.{length, get_or, take}
-use lib.Seq.{take_all}
+use mathlib.Core.Path.{◌≡◌}
+use lib.ListN.{length, take}
 use Rattle.plantext.specs.PlanText.{spaced}
-use Rattle.plantext.proofs.Printing.{Put, put_done, put_part, spaced_fits, spaced_none, spaced_turn}
+use Rattle.plantext.proofs.Printing.{Put}
 use Rattle.plantext.proofs.put_gains.Given as goal
 
 abbrev pub invariant-loop-i : goal.invariant-loop-i

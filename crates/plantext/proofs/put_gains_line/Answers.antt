@@ -1,6 +1,5 @@
 -- `plantext::put_gains_line` meets its contract. Assumes nothing.
 use native.Mathlib.Omega.{arith}
-use borrow.Author.Rules.{rules}
 use Prim.Native.Nat.{◌+◌, ◌*◌}
 use lib.ListN.{length}
 use Rattle.plantext.specs.PlanText.{spaced, gains_name}

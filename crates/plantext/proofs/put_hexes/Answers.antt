@@ -1,12 +1,9 @@
 -- `plantext::put_hexes` meets its contract. Assumes nothing.
 use native.Mathlib.Omega.{arith}
-use borrow.Author.Rules.{rules}
-use Prim.Native.Nat.{◌+◌, ◌-◌, ◌*◌, ◌≤◌}
 use mathlib.Core.Path.{◌≡◌, refl}
-use lib.ListN.{length, take, length-set}
+use lib.ListN.{length, length-set}
 use lib.Seq.{take_all}
-use Rattle.plantext.specs.PlanText.{hexes}
-use Rattle.plantext.proofs.Printing.{Put, put_done, hexes_none, hexes_turn}
+use Rattle.plantext.proofs.Printing.{put_done, hexes_none, hexes_turn}
 use Rattle.plantext.proofs.put_hexes.Goals as goal
 
 pub loop-i-init : goal.loop-i-init

@@ -1,12 +1,9 @@
 -- `plantext::put_hexes` meets its contract. Assumes nothing.
-use native.Mathlib.Omega.{arith}
-use borrow.Author.Rules.{rules}
 use Prim.Native.Nat.{◌+◌, ◌-◌, ◌*◌, ◌≤◌}
-use mathlib.Core.Path.{◌≡◌, refl}
-use lib.ListN.{length, take, length-set}
-use lib.Seq.{take_all}
+use mathlib.Core.Path.{◌≡◌}
+use lib.ListN.{length, take}
 use Rattle.plantext.specs.PlanText.{hexes}
-use Rattle.plantext.proofs.Printing.{Put, put_done, hexes_none, hexes_turn}
+use Rattle.plantext.proofs.Printing.{Put}
 use Rattle.plantext.proofs.put_hexes.Given as goal
 
 abbrev pub invariant-loop-i : goal.invariant-loop-i

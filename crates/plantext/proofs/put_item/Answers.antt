@@ -1,6 +1,5 @@
 -- `plantext::put_item` meets its contract. Assumes nothing.
 use native.Mathlib.Omega.{arith}
-use borrow.Author.Rules.{rules}
 use mathlib.Core.Path.{◌∙◌}
 use lib.ListN.{length-set}
 use Rattle.plantext.proofs.Printing.{put_done, put_part, put_byte, put_both, put_length, decimal_fits, spaced_one}

@@ -1,6 +1,5 @@
 -- `plantext::put_number_line` meets its contract. Assumes nothing.
 use native.Mathlib.Omega.{arith}
-use borrow.Author.Rules.{rules}
 use Prim.Native.Nat.{◌+◌}
 use mathlib.Core.List.{[], ◌∷◌}
 use lib.ListN.{length}

@@ -1,6 +1,5 @@
 -- `plantext::put_sizes` meets its contract. Assumes nothing.
 use native.Mathlib.Omega.{arith}
-use borrow.Author.Rules.{rules}
 use Rattle.plantext.specs.PlanText.{payload_name, total_name, size_lines}
 use Rattle.plantext.proofs.Printing.{put_done, put_part, put_both, number_line_fits}
 use Rattle.plantext.proofs.put_sizes.Goals as goal

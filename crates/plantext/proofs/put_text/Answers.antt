@@ -1,12 +1,10 @@
 -- `plantext::put_text` meets its contract. Assumes nothing.
 use native.Mathlib.Omega.{arith}
-use borrow.Author.Rules.{rules}
-use Prim.Native.Nat.{◌+◌, ◌-◌, ◌≤◌}
 use native.Mathlib.Nat.{add-zero}
 use mathlib.Core.Path.{◌≡◌, refl}
-use lib.ListN.{length, take, length-set}
+use lib.ListN.{length, length-set}
 use lib.Seq.{take_all}
-use Rattle.plantext.proofs.Printing.{Put, put_done, put_none, text_turn}
+use Rattle.plantext.proofs.Printing.{put_done, put_none, text_turn}
 use Rattle.plantext.proofs.put_text.Goals as goal
 
 pub loop-i-init : goal.loop-i-init

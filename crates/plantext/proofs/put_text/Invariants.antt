@@ -1,12 +1,8 @@
 -- `plantext::put_text` meets its contract. Assumes nothing.
-use native.Mathlib.Omega.{arith}
-use borrow.Author.Rules.{rules}
 use Prim.Native.Nat.{◌+◌, ◌-◌, ◌≤◌}
-use native.Mathlib.Nat.{add-zero}
-use mathlib.Core.Path.{◌≡◌, refl}
-use lib.ListN.{length, take, length-set}
-use lib.Seq.{take_all}
-use Rattle.plantext.proofs.Printing.{Put, put_done, put_none, text_turn}
+use mathlib.Core.Path.{◌≡◌}
+use lib.ListN.{length, take}
+use Rattle.plantext.proofs.Printing.{Put}
 use Rattle.plantext.proofs.put_text.Given as goal
 
 abbrev pub invariant-loop-i : goal.invariant-loop-i

@@ -1,6 +1,5 @@
 -- `reader::answer` meets its contract. Assumes nothing.
 use mathlib.Core.Path.{subst}
-use borrow.Author.Rules.{rules}
 use Rattle.reader.specs.Work.{Near}
 use Rattle.reader.proofs.answer.Goals as goal
 

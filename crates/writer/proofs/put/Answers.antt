@@ -1,7 +1,6 @@
 -- `writer::put` meets its contract. Assumes nothing.
 use Prim.Native.Nat.{◌+◌}
 use mathlib.Core.Path.{◌≡◌, ◌∙◌}
-use borrow.Author.Rules.{rules}
 use Rattle.bits.specs.Bits.{bits_n, bit_at, pos_of, bytes_with}
 use Rattle.bits.specs.declared.BitMove.TheVariants.{Done}
 use Rattle.bits.proofs.Laws.{write_good, length_bits_n}

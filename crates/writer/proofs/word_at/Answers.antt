@@ -2,7 +2,6 @@
 use mathlib.Core.Path.{◌∙◌}
 use Prim.Native.Nat.{◌+◌}
 use lib.ListN.{drop}
-use borrow.Author.Rules.{rules}
 use Rattle.writer.proofs.Words.{from_small, word_is}
 use Rattle.writer.proofs.word_at.Goals as goal
 

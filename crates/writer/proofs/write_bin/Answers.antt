@@ -2,7 +2,6 @@
 use Rattle.channel.proofs.Codings.{Range, coded_bin}
 use mathlib.Core.Path.{◌≡◌, sym, ◌∙◌}
 use native.Mathlib.Omega.{arith}
-use borrow.Author.Rules.{rules}
 use Rattle.gains.specs.declared.Coding.{Coding}
 use Rattle.writer.proofs.Turns.{puts_none}
 use Rattle.channel.specs.Field.{coded_as, bin_of}

@@ -1,5 +1,4 @@
 -- `writer::write_choice` meets its contract. Assumes nothing.
-use borrow.Author.Rules.{rules}
 use Rattle.writer.proofs.write_choice.Goals as goal
 
 pub write_field-requires : goal.write_field-requires

@@ -1,6 +1,5 @@
 -- `writer::write_field` meets its contract. Assumes nothing.
 use native.Mathlib.Omega.{arith}
-use borrow.Author.Rules.{rules}
 use Rattle.writer.proofs.Call.{few_gains, mode_room, gains_room, bins_room, field_put}
 use Rattle.writer.proofs.write_field.Goals as goal
 

@@ -1,11 +1,10 @@
 -- `writer::write_gain_bits` meets its contract. Assumes nothing.
-use Prim.Native.Nat.{◌+◌, ◌-◌, ◌≤◌}
+use Prim.Native.Nat.{◌+◌}
 use native.Mathlib.Omega.{arith}
-use borrow.Author.Rules.{rules}
-use lib.ListN.{length, drop}
+use lib.ListN.{drop}
 use Rattle.bits.specs.Bits.{bits_n}
 use Rattle.writer.specs.Work.{gains_enc}
-use Rattle.writer.proofs.Turns.{Left, Next, left_all, left_room, left_next, left_none, puts_long}
+use Rattle.writer.proofs.Turns.{Next, left_all, left_room, left_next, left_none, puts_long}
 use Rattle.writer.proofs.Words.{bits_next, bits_end}
 use Rattle.writer.proofs.write_gain_bits.Goals as goal
 

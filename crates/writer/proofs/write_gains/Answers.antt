@@ -1,6 +1,5 @@
 -- `writer::write_gains` meets its contract. Assumes nothing.
 use native.Mathlib.Omega.{arith}
-use borrow.Author.Rules.{rules}
 use mathlib.Core.Path.{◌≡◌, subst, sym}
 use Rattle.writer.specs.Work.{Room, Puts, gains_enc}
 use Rattle.writer.proofs.Turns.{puts_none}

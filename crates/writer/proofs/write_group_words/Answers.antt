@@ -1,11 +1,10 @@
 -- `writer::write_group_words` meets its contract. Assumes nothing.
-use Prim.Native.Nat.{◌+◌, ◌-◌}
+use Prim.Native.Nat.{◌+◌}
 use native.Mathlib.Omega.{arith}
-use borrow.Author.Rules.{rules}
-use lib.ListN.{length, drop}
+use lib.ListN.{drop}
 use Rattle.bits.specs.Bits.{bits_n}
 use Rattle.writer.specs.Work.{gains_enc}
-use Rattle.writer.proofs.Turns.{Left, Next, left_all, left_room, left_next, left_none, puts_long}
+use Rattle.writer.proofs.Turns.{Next, left_all, left_room, left_next, left_none, puts_long}
 use Rattle.writer.proofs.Words.{words_next, words_end_lem}
 use Rattle.writer.proofs.write_group_words.Goals as goal
 use Rattle.writer.proofs.write_group_words.Goals.{After-word_at}

@@ -3,7 +3,6 @@ use Prim.Native.Nat.{◌+◌, ◌-◌, ◌≤◌}
 use mathlib.Core.Path.{◌≡◌, sym}
 use native.Mathlib.Omega.{arith}
 use lib.ListN.{length, drop, get_or}
-use borrow.Author.Rules.{rules}
 use Rattle.desktext.specs.Spelling.{largest, last_number, bins_token, row_token}
 use Rattle.desktext.specs.Channel.{channel_from, on_row, missing, numbers}
 use Rattle.desktext.proofs.Outputs.{six_fit}

@@ -1,10 +1,6 @@
 -- `desktext::channels::numbers_at` meets its contract. Assumes nothing.
-use Prim.Native.Nat.{◌+◌, ◌-◌, ◌≤◌}
-use mathlib.Core.Path.{◌≡◌, sym}
+use mathlib.Core.Path.{sym}
 use native.Mathlib.Omega.{arith}
-use lib.ListN.{length, take, drop}
-use borrow.Author.Rules.{rules}
-use Rattle.desktext.specs.Channel.{numbers, items, lead}
 use Rattle.desktext.proofs.Forms.{numbers_end, numbers_other, numbers_named, run_end, run_close, run_low, run_high, run_more}
 use Rattle.desktext.proofs.channels.numbers_at.Goals as goal
 

@@ -1,11 +1,8 @@
 -- `desktext::channels::put_row` meets its contract. Assumes nothing.
-use Prim.Native.Nat.{◌+◌, ◌-◌, ◌≤◌}
+use Prim.Native.Nat.{◌+◌, ◌-◌}
 use mathlib.Core.Path.{sym, ◌≡◌, refl}
-use mathlib.Core.List.{map}
 use native.Mathlib.Omega.{arith}
 use lib.ListN.{length, take, drop, get_or, length-set}
-use borrow.Author.Rules.{rules}
-use Rattle.bits.specs.Bits.{splice}
 use Rattle.bits.proofs.Laws.{splice_none}
 use Rattle.desktext.specs.Spelling.{largest}
 use Rattle.desktext.proofs.Laws.{part_long, part_at}

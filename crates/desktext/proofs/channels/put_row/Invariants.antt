@@ -1,15 +1,10 @@
 -- `desktext::channels::put_row` meets its contract. Assumes nothing.
-use Prim.Native.Nat.{◌+◌, ◌-◌, ◌≤◌}
-use mathlib.Core.Path.{sym, ◌≡◌, refl}
+use Prim.Native.Nat.{◌-◌, ◌≤◌}
+use mathlib.Core.Path.{◌≡◌}
 use mathlib.Core.List.{map}
-use native.Mathlib.Omega.{arith}
-use lib.ListN.{length, take, drop, get_or, length-set}
-use borrow.Author.Rules.{rules}
+use lib.ListN.{length, take, drop}
 use Rattle.bits.specs.Bits.{splice}
-use Rattle.bits.proofs.Laws.{splice_none}
 use Rattle.desktext.specs.Spelling.{largest}
-use Rattle.desktext.proofs.Laws.{part_long, part_at}
-use Rattle.desktext.proofs.Outputs.{put_turn, put_all}
 use Rattle.desktext.proofs.channels.put_row.Given as goal
 
 abbrev pub invariant-loop-i : goal.invariant-loop-i

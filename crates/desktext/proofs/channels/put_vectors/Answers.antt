@@ -1,12 +1,10 @@
 -- `desktext::channels::put_vectors` meets its contract. Assumes nothing.
-use Prim.Native.Nat.{ℕ, ◌+◌, ◌-◌, ◌*◌, ◌/◌, ◌%◌, ◌≤◌, ◌<◌}
+use Prim.Native.Nat.{ℕ, ◌+◌, ◌*◌, ◌/◌, ◌%◌, ◌<◌}
 use mathlib.Core.Path.{sym, ◌≡◌, refl, ◌∙◌, ap}
-use mathlib.Core.List.{List, map}
+use mathlib.Core.List.{List}
 use native.Mathlib.Omega.{arith}
 use lib.Seq.{get_or-drop}
-use lib.ListN.{length, take, drop, get_or, length-set, length-drop}
-use borrow.Author.Rules.{rules}
-use Rattle.bits.specs.Bits.{splice}
+use lib.ListN.{length, drop, get_or, length-set, length-drop}
 use Rattle.bits.proofs.Laws.{splice_none}
 use Rattle.desktext.specs.Printed.{component_of}
 use Rattle.desktext.specs.Work.{vector_numbers}

@@ -1,7 +1,6 @@
 -- `desktext::channels::read_tokens` meets its contract. Assumes nothing.
 use mathlib.Core.Path.{◌≡◌, ◌∙◌}
 use native.Mathlib.Omega.{arith}
-use borrow.Author.Rules.{rules}
 use Rattle.desktext.specs.Channel.{channel_from}
 use Rattle.desktext.specs.Work.{checked_in, IsFitting}
 use Rattle.desktext.specs.declared.Checked.TheVariants.{Sound}

@@ -4,7 +4,6 @@ use native.Mathlib.Omega.{arith}
 use lib.Dec.{le→leb}
 use lib.Ieee.{in_float}
 use borrow.Author.Tests.{le-leb, lt-leb}
-use borrow.Author.Rules.{rules}
 use Rattle.desktext.specs.Spelling.{largest}
 use Rattle.desktext.specs.Printed.{component_of}
 use Rattle.desktext.proofs.channels.value.Goals as goal

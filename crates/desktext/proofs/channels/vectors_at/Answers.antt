@@ -1,12 +1,9 @@
 -- `desktext::channels::vectors_at` meets its contract. Assumes nothing.
-use Prim.Native.Nat.{◌+◌, ◌-◌, ◌*◌, ◌≤◌}
-use mathlib.Core.Path.{◌≡◌, sym}
+use mathlib.Core.Path.{sym}
 use native.Mathlib.Omega.{arith}
-use lib.ListN.{length, drop}
-use borrow.Author.Rules.{rules}
+use lib.ListN.{drop}
 use Rattle.desktext.specs.Spelling.{vector_token, last_number}
-use Rattle.desktext.specs.Channel.{numbers, vectors, lead}
-use Rattle.desktext.specs.Work.{vector_numbers}
+use Rattle.desktext.specs.Channel.{numbers}
 use Rattle.desktext.proofs.Forms.{vectors_start, vectors_halt, vectors_uneven, vectors_turn, vectors_cut, vectors_open, vectors_done, NumbersAt, holds_count, holds_none}
 use Rattle.desktext.proofs.channels.vectors_at.Goals as goal
 

@@ -1,11 +1,6 @@
 -- `desktext::numbers::digits_at` meets its contract. Assumes nothing.
-use Prim.Native.Nat.{◌-◌, ◌≤◌}
-use mathlib.Core.Path.{◌≡◌, refl, sym, ◌∙◌}
+use mathlib.Core.Path.{refl, sym, ◌∙◌}
 use native.Mathlib.Omega.{arith}
-use lib.ListN.{length, drop}
-use borrow.Author.Rules.{rules}
-use Rattle.desktext.specs.Spelling.{largest}
-use Rattle.desktext.specs.Text.{digits}
 use Rattle.desktext.proofs.Laws.{digits_end, digits_low, digits_high, digits_large, digits_more}
 use Rattle.desktext.proofs.numbers.digits_at.Goals as goal
 

@@ -1,12 +1,9 @@
 -- `desktext::numbers::digits_at` meets its contract. Assumes nothing.
 use Prim.Native.Nat.{◌-◌, ◌≤◌}
-use mathlib.Core.Path.{◌≡◌, refl, sym, ◌∙◌}
-use native.Mathlib.Omega.{arith}
+use mathlib.Core.Path.{◌≡◌}
 use lib.ListN.{length, drop}
-use borrow.Author.Rules.{rules}
 use Rattle.desktext.specs.Spelling.{largest}
 use Rattle.desktext.specs.Text.{digits}
-use Rattle.desktext.proofs.Laws.{digits_end, digits_low, digits_high, digits_large, digits_more}
 use Rattle.desktext.proofs.numbers.digits_at.Given as goal
 
 abbrev pub invariant-loop-p : goal.invariant-loop-p

@@ -2,7 +2,6 @@
 use Prim.Native.Nat.{◌+◌}
 use mathlib.Core.Path.{sym}
 use native.Mathlib.Omega.{arith}
-use borrow.Author.Rules.{rules}
 use Rattle.desktext.proofs.Laws.{natural_end, natural_zero, natural_low, natural_high, natural_more, further}
 use Rattle.desktext.proofs.numbers.natural_at.Goals as goal
 

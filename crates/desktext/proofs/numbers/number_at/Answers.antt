@@ -3,7 +3,6 @@ use Prim.Native.Nat.{◌+◌}
 use mathlib.Core.Path.{sym}
 use native.Mathlib.Omega.{arith}
 use lib.ListN.{drop}
-use borrow.Author.Rules.{rules}
 use Rattle.desktext.specs.Spelling.{largest}
 use Rattle.desktext.specs.Text.{natural}
 use Rattle.desktext.proofs.Laws.{number_end, number_less_none, number_less_zero, number_less, number_more_none, number_more, FoundAt, finds_at, finds_none}

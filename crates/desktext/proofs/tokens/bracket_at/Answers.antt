@@ -1,7 +1,6 @@
 -- `desktext::tokens::bracket_at` meets its contract. Assumes nothing.
 use mathlib.Core.Path.{sym}
 use native.Mathlib.Omega.{arith}
-use borrow.Author.Rules.{rules}
 use Rattle.desktext.proofs.Laws.{bracket_end, bracket_other, bracket_found}
 use Rattle.desktext.proofs.tokens.bracket_at.Goals as goal
 

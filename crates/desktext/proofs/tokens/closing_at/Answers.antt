@@ -2,7 +2,6 @@
 use Prim.Native.Nat.{◌+◌}
 use mathlib.Core.Path.{sym}
 use native.Mathlib.Omega.{arith}
-use borrow.Author.Rules.{rules}
 use Rattle.desktext.proofs.Laws.{closing_end, closing_line, closing_here, further}
 use Rattle.desktext.proofs.tokens.closing_at.Goals as goal
 

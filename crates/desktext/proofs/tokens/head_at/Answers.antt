@@ -1,10 +1,8 @@
 -- `desktext::tokens::head_at` meets its contract. Assumes nothing.
 use Prim.Native.Nat.{◌+◌}
 use mathlib.Core.Path.{◌≡◌, sym}
-use mathlib.Core.Logic.{⊎_elim}
 use native.Mathlib.Omega.{arith}
 use lib.ListN.{drop}
-use borrow.Author.Rules.{rules}
 use Rattle.desktext.specs.Text.{item_head, or_else, named, number_seen}
 use Rattle.desktext.proofs.Laws.{head_end, head_other, head_space, head_line, else_found, else_other, finds_at, finds_none}
 use Rattle.desktext.proofs.tokens.head_at.Goals as goal

@@ -5,7 +5,6 @@ use mathlib.Core.Bool.{Bool, false}
 use mathlib.Core.List.{List}
 use native.Mathlib.Omega.{arith}
 use lib.ListN.{drop}
-use borrow.Author.Rules.{rules}
 use Rattle.desktext.specs.Spelling.{channel_word, bins_word, row_word, vector_word}
 use Rattle.desktext.specs.Text.{leads, named}
 use Rattle.desktext.proofs.Laws.{name_found}

@@ -3,7 +3,6 @@ use Prim.Native.Nat.{◌+◌, ◌≤◌}
 use mathlib.Core.Path.{◌≡◌, ◌∙◌}
 use native.Mathlib.Omega.{arith}
 use lib.ListN.{length, length-set}
-use borrow.Author.Rules.{rules}
 use Rattle.desktext.specs.Spelling.{close_token}
 use Rattle.desktext.specs.Text.{named}
 use Rattle.desktext.specs.Work.{Reading}

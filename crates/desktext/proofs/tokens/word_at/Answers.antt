@@ -1,11 +1,7 @@
 -- `desktext::tokens::word_at` meets its contract. Assumes nothing.
-use Prim.Native.Nat.{◌+◌, ◌-◌, ◌≤◌}
-use mathlib.Core.Path.{◌≡◌, sym, ◌∙◌}
+use mathlib.Core.Path.{sym, ◌∙◌}
 use native.Mathlib.Nat.{add-zero}
 use native.Mathlib.Omega.{arith}
-use lib.ListN.{length, drop}
-use borrow.Author.Rules.{rules}
-use Rattle.desktext.specs.Text.{leads}
 use Rattle.desktext.proofs.Laws.{leads_done, leads_short, leads_differ, leads_more}
 use Rattle.desktext.proofs.tokens.word_at.Goals as goal
 

@@ -1,12 +1,8 @@
 -- `desktext::tokens::word_at` meets its contract. Assumes nothing.
 use Prim.Native.Nat.{◌+◌, ◌-◌, ◌≤◌}
-use mathlib.Core.Path.{◌≡◌, sym, ◌∙◌}
-use native.Mathlib.Nat.{add-zero}
-use native.Mathlib.Omega.{arith}
+use mathlib.Core.Path.{◌≡◌}
 use lib.ListN.{length, drop}
-use borrow.Author.Rules.{rules}
 use Rattle.desktext.specs.Text.{leads}
-use Rattle.desktext.proofs.Laws.{leads_done, leads_short, leads_differ, leads_more}
 use Rattle.desktext.proofs.tokens.word_at.Given as goal
 
 abbrev pub invariant-loop-k : goal.invariant-loop-k

@@ -1,6 +1,5 @@
 -- `fathrugg::bit_calls::fathrugg_write_u32` meets its contract. Assumes nothing.
 use mathlib.Core.Path.{refl, sym, ◌∙◌}
-use borrow.Author.Rules.{rules}
 use Rattle.fathrugg.proofs.bit_calls.fathrugg_write_u32.Goals as goal
 
 pub returns-in-Refused : goal.returns-in-Refused

@@ -1,7 +1,6 @@
 -- `fathrugg::channel_calls::fathrugg_plan_aht_channel` meets its contract. Assumes nothing.
 use mathlib.Core.Path.{refl, sym}
 use borrow.Author.Tests.{ne_eqb}
-use borrow.Author.Rules.{rules}
 use Rattle.fathrugg.proofs.channel_calls.fathrugg_plan_aht_channel.Goals as goal
 
 pub returns-then-p-eq0 : goal.returns-then-p-eq0

@@ -4,7 +4,6 @@ use mathlib.Core.Path.{◌≡◌, refl, sym, ap, ◌∙◌}
 use mathlib.Core.List.{List}
 use native.Mathlib.Omega.{arith}
 use borrow.Author.Tests.{ne_eqb}
-use borrow.Author.Rules.{rules}
 use lib.ListN.{length}
 use Rattle.bits.specs.Bits.{bit_at, pos_of}
 use Rattle.bits.specs.declared.BitPos.{BitPos}

@@ -1,6 +1,5 @@
 -- `fathrugg::channel_calls::fathrugg_write_aht_channel` meets its contract. Assumes nothing.
 use mathlib.Core.Path.{refl, sym, ◌∙◌}
-use borrow.Author.Rules.{rules}
 use Rattle.fathrugg.proofs.channel_calls.fathrugg_write_aht_channel.Goals as goal
 
 pub returns-in-Refused : goal.returns-in-Refused

@@ -1,6 +1,5 @@
 -- `fathrugg::page_calls::fathrugg_print_pages` meets its contract. Assumes nothing.
 use mathlib.Core.Path.{refl, sym, ◌∙◌}
-use borrow.Author.Rules.{rules}
 use Rattle.fathrugg.proofs.page_calls.fathrugg_print_pages.Goals as goal
 
 pub returns-in-Refused : goal.returns-in-Refused

@@ -1,7 +1,6 @@
 -- `fathrugg::quantiser_calls::fathrugg_quantise_bin` meets its contract. Assumes nothing.
 use mathlib.Core.Path.{refl, sym}
 use borrow.Author.Tests.{ne_eqb}
-use borrow.Author.Rules.{rules}
 use Rattle.fathrugg.proofs.quantiser_calls.fathrugg_quantise_bin.Goals as goal
 
 pub returns-then-b-eq0 : goal.returns-then-b-eq0

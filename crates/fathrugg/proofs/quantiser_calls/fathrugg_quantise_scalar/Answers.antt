@@ -1,6 +1,5 @@
 -- `fathrugg::quantiser_calls::fathrugg_quantise_scalar` meets its contract. Assumes nothing.
 use mathlib.Core.Path.{refl, sym, ◌∙◌}
-use borrow.Author.Rules.{rules}
 use Rattle.fathrugg.proofs.quantiser_calls.fathrugg_quantise_scalar.Goals as goal
 
 pub returns-in-Refused : goal.returns-in-Refused

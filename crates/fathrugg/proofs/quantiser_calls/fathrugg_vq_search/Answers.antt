@@ -1,6 +1,5 @@
 -- `fathrugg::quantiser_calls::fathrugg_vq_search` meets its contract. Assumes nothing.
 use mathlib.Core.Path.{refl, sym, ◌∙◌}
-use borrow.Author.Rules.{rules}
 use Rattle.fathrugg.proofs.quantiser_calls.fathrugg_vq_search.Goals as goal
 
 pub returns-in-Refused : goal.returns-in-Refused

@@ -1,6 +1,5 @@
 -- `fathrugg::row_calls::fathrugg_fill_gaqbin` meets its contract. Assumes nothing.
 use mathlib.Core.Path.{refl, sym, ◌∙◌}
-use borrow.Author.Rules.{rules}
 use Rattle.fathrugg.proofs.row_calls.fathrugg_fill_gaqbin.Goals as goal
 
 pub returns-in-Refused : goal.returns-in-Refused

@@ -1,6 +1,5 @@
 -- `fathrugg::row_calls::fathrugg_gaq_sections` meets its contract. Assumes nothing.
 use mathlib.Core.Path.{refl, sym, ◌∙◌}
-use borrow.Author.Rules.{rules}
 use Rattle.fathrugg.proofs.row_calls.fathrugg_gaq_sections.Goals as goal
 
 pub returns-in-Refused : goal.returns-in-Refused

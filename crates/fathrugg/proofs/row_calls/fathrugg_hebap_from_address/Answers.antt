@@ -3,7 +3,6 @@ use mathlib.Core.Path.{◌≡◌, refl, sym, ◌∙◌}
 use mir.Syntax.{w16, w32}
 use mir.ValLaws.{to_z-of_z}
 use Rattle.tables.specs.Tables.{hebap_from_address}
-use borrow.Author.Rules.{rules}
 use Rattle.fathrugg.proofs.row_calls.fathrugg_hebap_from_address.Goals as goal
 
 pub returns-in-Refused : goal.returns-in-Refused

@@ -2,7 +2,6 @@
 use mathlib.Core.Path.{refl, sym, ◌∙◌}
 use mir.Syntax.{w8}
 use mir.ValLaws.{to_z-of_z}
-use borrow.Author.Rules.{rules}
 use Rattle.fathrugg.proofs.row_calls.fathrugg_read_scalar_aht_mantissas.Goals as goal
 
 -- gaqbin, a signed number, is passed on as it is

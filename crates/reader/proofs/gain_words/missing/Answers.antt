@@ -1,6 +1,5 @@
 -- `reader::gain_words::missing` meets its contract. Assumes nothing.
 use mathlib.Core.Path.{◌≡◌, sym, ap, ◌∙◌}
-use borrow.Author.Rules.{rules}
 use borrow.Author.Tests.{eq-eqb, ne_eqb}
 use Rattle.gains.specs.Gains.{second_code}
 use Rattle.gains.specs.declared.GroupCodes.{GroupCodes}

@@ -6,7 +6,6 @@ use Rattle.gains.specs.declared.GroupCodes.{GroupCodes}
 use lib.ListN.{length-set}
 use Rattle.reader.proofs.GainWords.{put_one, put_two, put_three}
 use native.Mathlib.Omega.{arith}
-use borrow.Author.Rules.{rules}
 use Rattle.reader.proofs.gain_words.put_gains.Goals as goal
 use Rattle.reader.proofs.gain_words.put_gains.Goals.{After-unpack-c}
 

@@ -10,7 +10,7 @@ use Rattle.bits.specs.Format.{number, number_in, got}
 use Rattle.bits.proofs.Laws.{splice_one}
 use Rattle.bits.proofs.Reading.{number_as, next_inside}
 use Rattle.channel.specs.Field.{gain_words}
-use Rattle.reader.proofs.GainWords.{SoFar, none_yet, word_more, word_refused, words_done, number_below, bits_none, bit_short, bit_next}
+use Rattle.reader.proofs.GainWords.{none_yet, word_more, word_refused, words_done, number_below, bits_none, bit_short, bit_next}
 use native.Mathlib.Omega.{arith}
 use borrow.Author.Rules.{rules}
 use Rattle.reader.proofs.gain_words.read_gain_bits.Goals as goal

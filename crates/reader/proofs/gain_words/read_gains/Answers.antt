@@ -6,7 +6,6 @@ use Rattle.bits.proofs.Reading.{pos_is}
 use Rattle.bits.specs.declared.BitMove.{BitMove}
 use Rattle.reader.proofs.GainWords.{words_zero, words_three}
 use native.Mathlib.Omega.{arith}
-use borrow.Author.Rules.{rules}
 use Rattle.reader.proofs.gain_words.read_gains.Goals as goal
 
 pub returns-in-0 : goal.returns-in-0

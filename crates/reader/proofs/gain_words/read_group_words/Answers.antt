@@ -9,9 +9,8 @@ use Rattle.bits.specs.Format.{number, number_in, got}
 use Rattle.bits.proofs.Reading.{number_as, next_inside}
 use Rattle.channel.specs.Field.{group_words}
 use Rattle.reader.specs.Work.{three_gains}
-use Rattle.reader.proofs.GainWords.{SoFar, none_yet, word_more, word_refused, words_done, groups_none, group_short, group_high, group_missing, group_next, three_long}
+use Rattle.reader.proofs.GainWords.{none_yet, word_more, word_refused, words_done, groups_none, group_short, group_high, group_missing, group_next, three_long}
 use native.Mathlib.Omega.{arith}
-use borrow.Author.Rules.{rules}
 use Rattle.reader.proofs.gain_words.read_group_words.Goals as goal
 
 pub loop-i-init : goal.loop-i-init

@@ -1,17 +1,8 @@
 -- `reader::gain_words::read_group_words` meets its contract. The invariant is GainWords.SoFar. Assumes nothing.
 use Prim.Native.Nat.{◌-◌}
-use mathlib.Core.Path.{◌≡◌, refl, sym, ◌∙◌}
-use mathlib.Core.Logic.{inl}
-use lib.ListN.{take, drop}
-use Rattle.bits.specs.Bits.{bits_of, bit_at}
-use Rattle.bits.specs.declared.BitRead.{BitRead}
-use Rattle.bits.specs.Format.{number, number_in, got}
-use Rattle.bits.proofs.Reading.{number_as, next_inside}
+use Rattle.bits.specs.Bits.{bit_at}
 use Rattle.channel.specs.Field.{group_words}
-use Rattle.reader.specs.Work.{three_gains}
-use Rattle.reader.proofs.GainWords.{SoFar, none_yet, word_more, word_refused, words_done, groups_none, group_short, group_high, group_missing, group_next, three_long}
-use native.Mathlib.Omega.{arith}
-use borrow.Author.Rules.{rules}
+use Rattle.reader.proofs.GainWords.{SoFar}
 use Rattle.reader.proofs.gain_words.read_group_words.Given as goal
 
 abbrev pub invariant-loop-i : goal.invariant-loop-i

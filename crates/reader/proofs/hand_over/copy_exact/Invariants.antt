@@ -1,13 +1,6 @@
 -- `reader::hand_over::copy_exact` meets its contract. The invariant is Copies.Copied. Assumes nothing.
 use Prim.Native.Nat.{◌-◌}
-use native.Mathlib.Omega.{arith}
-use borrow.Author.Rules.{rules}
-use lib.IntN.{pos}
-use lib.ListN.{get_or}
-use mir.Syntax.{w32}
-use mir.Val.{SFits}
-use mir.ValLaws.{to_z-of_z}
-use Rattle.reader.proofs.Copies.{Copied, copied_none, copied_one, copied_all}
+use Rattle.reader.proofs.Copies.{Copied}
 use Rattle.reader.proofs.hand_over.copy_exact.Given as goal
 
 abbrev pub invariant-loop-i : goal.invariant-loop-i

@@ -1,9 +1,7 @@
 -- `reader::hand_over::copy_values` meets its contract. The invariant is Copies.Copied. Assumes nothing.
-use Prim.Native.Nat.{◌-◌}
 use native.Mathlib.Omega.{arith}
-use borrow.Author.Rules.{rules}
 use lib.Ieee.{nan}
-use Rattle.reader.proofs.Copies.{Copied, copied_none, copied_one, copied_all}
+use Rattle.reader.proofs.Copies.{copied_none, copied_one, copied_all}
 use Rattle.reader.proofs.hand_over.copy_values.Goals as goal
 
 pub loop-i-init : goal.loop-i-init

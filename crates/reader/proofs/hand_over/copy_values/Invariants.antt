@@ -1,9 +1,6 @@
 -- `reader::hand_over::copy_values` meets its contract. The invariant is Copies.Copied. Assumes nothing.
 use Prim.Native.Nat.{◌-◌}
-use native.Mathlib.Omega.{arith}
-use borrow.Author.Rules.{rules}
-use lib.Ieee.{nan}
-use Rattle.reader.proofs.Copies.{Copied, copied_none, copied_one, copied_all}
+use Rattle.reader.proofs.Copies.{Copied}
 use Rattle.reader.proofs.hand_over.copy_values.Given as goal
 
 abbrev pub invariant-loop-i : goal.invariant-loop-i

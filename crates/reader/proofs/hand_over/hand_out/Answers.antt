@@ -1,5 +1,4 @@
 -- `reader::hand_over::hand_out` meets its contract. Assumes nothing.
-use borrow.Author.Rules.{rules}
 use Rattle.reader.proofs.hand_over.hand_out.Goals as goal
 
 pub returns : goal.returns

@@ -1,11 +1,9 @@
 -- `reader::one_bin::put_zeros` meets its contract. Assumes nothing.
-use Prim.Native.Nat.{◌-◌, ◌*◌, ◌≤◌}
+use Prim.Native.Nat.{◌*◌}
 use mathlib.Core.Path.{◌≡◌, refl, sym, ◌∙◌}
 use native.Mathlib.Omega.{arith}
-use borrow.Author.Rules.{rules}
 use lib.IntN.{pos}
-use lib.ListN.{length, length-set, replicate}
-use Rattle.bits.specs.Bits.{splice}
+use lib.ListN.{length-set}
 use Rattle.bits.proofs.Laws.{splice_none, splice_one}
 use Rattle.levels.specs.Value.{f0}
 use Rattle.reader.proofs.Items.{alike_more}

@@ -1,14 +1,10 @@
 -- `reader::one_bin::put_zeros` meets its contract. Assumes nothing.
 use Prim.Native.Nat.{◌-◌, ◌*◌, ◌≤◌}
-use mathlib.Core.Path.{◌≡◌, refl, sym, ◌∙◌}
-use native.Mathlib.Omega.{arith}
-use borrow.Author.Rules.{rules}
+use mathlib.Core.Path.{◌≡◌}
 use lib.IntN.{pos}
-use lib.ListN.{length, length-set, replicate}
+use lib.ListN.{length, replicate}
 use Rattle.bits.specs.Bits.{splice}
-use Rattle.bits.proofs.Laws.{splice_none, splice_one}
 use Rattle.levels.specs.Value.{f0}
-use Rattle.reader.proofs.Items.{alike_more}
 use Rattle.reader.proofs.one_bin.put_zeros.Given as goal
 
 abbrev pub invariant-loop-j : goal.invariant-loop-j

@@ -1,7 +1,6 @@
 -- `reader::one_bin::read_bin` meets its contract. Assumes nothing.
 use Rattle.channel.proofs.Codings.{Range, coded_bin}
 use mathlib.Core.Path.{◌≡◌, sym, ap, ◌∙◌}
-use borrow.Author.Rules.{rules}
 use Rattle.bits.proofs.Reading.{pos_is}
 use Rattle.gains.specs.declared.Coding.{Coding}
 use Rattle.bits.specs.declared.BitMove.{BitMove}

@@ -1,7 +1,6 @@
 -- `reader::one_bin::read_codes` meets its contract. Assumes nothing.
 use Prim.Native.Nat.{◌*◌}
 use native.Mathlib.Omega.{arith}
-use borrow.Author.Rules.{rules}
 use lib.ListN.{length, drop}
 use Rattle.bits.specs.Bits.{bits_of, bit_at}
 use Rattle.levels.proofs.Common.{scale_is, scale_names}

@@ -1,17 +1,11 @@
 -- `reader::whole_field::read_bins` meets its contract. The invariant is Bins.SoFar, what was read. Assumes nothing.
 use Prim.Native.Nat.{◌-◌, ◌≤◌}
-use mathlib.Core.Path.{◌≡◌, refl, sym, ◌∙◌}
-use native.Mathlib.Omega.{arith}
-use borrow.Author.Rules.{rules}
-use lib.ListN.{length, get_or, drop}
-use Rattle.bits.specs.Bits.{bits_of, bit_at}
-use Rattle.gains.specs.Gains.{active}
+use mathlib.Core.Path.{◌≡◌}
+use lib.ListN.{length}
+use Rattle.bits.specs.Bits.{bit_at}
 use Rattle.channel.specs.Row.{active_count}
-use Rattle.channel.specs.Field.{lenient, item, bin_of}
-use Rattle.channel.proofs.Over.{one_small}
-use Rattle.channel.proofs.Rows.{known_hebap, rank_turn, count_start}
 use Rattle.reader.specs.Work.{outputs}
-use Rattle.reader.proofs.Bins.{SoFar, none_yet, one_more_lem, cut, done}
+use Rattle.reader.proofs.Bins.{SoFar}
 use Rattle.reader.proofs.whole_field.read_bins.Given as goal
 
 abbrev pub invariant-loop-bin : goal.invariant-loop-bin

@@ -1,6 +1,5 @@
 -- `reader::whole_field::read_field` meets its contract. Assumes nothing.
 use native.Mathlib.Omega.{arith}
-use borrow.Author.Rules.{rules}
 use Rattle.reader.proofs.Whole.{ModeRead, mode_stop, mode_read, field_read}
 use Rattle.reader.proofs.whole_field.read_field.Goals as goal
 
