@@ -10,6 +10,9 @@ use super::{
     BINS, CHANNEL, CLOSE, Checked, Counted, DeskText, LARGEST, LAST_NUMBER, LAST_ROW, ROW, VECTOR,
 };
 
+// How many numbers a vector has.
+const COMPONENTS: usize = 6;
+
 // A form of that name whose items are numbers from low to high.
 fn numbers_at(tokens: &[u32], at: usize, name: u32, low: u32, high: u32) -> Counted
     requires { at ≤ length tokens.now }
@@ -52,7 +55,7 @@ fn vectors_at(tokens: &[u32], at: usize, n: usize) -> bool
                 return false;
             }
             Counted::Count(k) => {
-                if k != 6 {
+                if k != COMPONENTS {
                     return false;
                 }
                 p += 8;

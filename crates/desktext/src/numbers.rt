@@ -6,6 +6,9 @@ ghost use Rattle.desktext.specs.Work.{Finds};
 
 use super::{Found, LARGEST};
 
+// The digit 0, as a byte.
+const ZERO: u8 = 48;
+
 // The digits from a place on, after those of v.
 fn digits_at(text: &[u8], at: usize, v: u32) -> Found
     requires { (at ≤ length text.now) × (v ≤ largest) }
@@ -46,7 +49,7 @@ fn natural_at(text: &[u8], at: usize) -> Found
         return Found::Absent;
     }
     let b = text[at];
-    if b == 48 {
+    if b == ZERO {
         return Found::At(0, at + 1);
     }
     if b < 48 {

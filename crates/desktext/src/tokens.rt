@@ -6,6 +6,9 @@ ghost use Rattle.desktext.specs.Work.{ListedIn, Finds, StepReads, FormAt, ItemAt
 
 use super::{BINS, CHANNEL, CLOSE, Counted, Found, LAST_NUMBER, ROW, Step, VECTOR, numbers};
 
+// The byte that ends a line.
+const LINE_END: u8 = 10;
+
 // Whether the word stands at a place of the text.
 fn word_at(text: &[u8], at: usize, word: &[u8]) -> bool
     requires { at ≤ length text.now }
@@ -54,7 +57,7 @@ fn head_at(text: &[u8], at: usize) -> Found
     }
     let b = text[at];
     if b != 32 {
-        if b != 10 {
+        if b != LINE_END {
             return Found::Absent;
         }
     }

@@ -9,6 +9,9 @@ ghost use Rattle.gains.specs.Work.{placed};
 use answers::{ByteResult, SizeResult};
 use bits::{BitPos, BitRead};
 
+// From this mode on hebap 12 to 16 are active too.
+const WIDE_FROM: u8 = 2;
+
 // What read_gaq_gains answers: how many codes it put out and the advanced position, or the number of the refusal.
 #[derive(Clone, Copy)]
 pub enum GainsResult {
@@ -103,7 +106,7 @@ pub fn is_allowed(gaqmod: u8, gain: u8) -> bool
 fn end_of(gaqmod: u8) -> u8
     ensures { result ≡ endbap gaqmod }
 {
-    if gaqmod < 2 { 12 } else { 17 }
+    if gaqmod < WIDE_FROM { 12 } else { 17 }
 }
 
 // Bins of hebap 8 up to this one, not included, are marked (fill_gaqbin), also in mode 0. Refuses a mode above 3 with

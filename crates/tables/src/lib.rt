@@ -9,6 +9,9 @@ use answers::ByteResult;
 
 mod consts;
 
+// The lowest mask that is answered.
+const LEAST_MASK: i32 = -65536;
+
 // m of a hebap, 0 where it is not 8 to 19.
 pub fn mant_bits(hebap: u8) -> u8
     ensures { result ≡ mant_bits hebap }
@@ -55,7 +58,7 @@ fn hebap_at(address: usize) -> u8
 pub fn hebap_from_address(psd: i16, mask_after_floor: i32) -> ByteResult
     ensures { result ≡ hebap_from_address psd mask_after_floor }
 {
-    if mask_after_floor < -65536 {
+    if mask_after_floor < LEAST_MASK {
         return ByteResult::Refused(answers::OUT_OF_RANGE);
     }
     if 65536 < mask_after_floor {

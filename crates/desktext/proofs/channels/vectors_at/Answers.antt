@@ -18,11 +18,11 @@ returns-in-Broken c = let a = c.args in
       within = tt;
     }
 
-pub returns-then-k-ne6 : goal.returns-then-k-ne6
-returns-then-k-ne6 c = let six_is : (NumbersAt c.args.tokens.now c.loop-i.p vector_token 0 last_number c.in-Count.k) = (holds_count _ _ vector_token 0 last_number c.numbers_at-six.result _ c.numbers_at-six.ensures c.in-Count.is) in
+pub returns-then-k-ne-COMPONENTS : goal.returns-then-k-ne-COMPONENTS
+returns-then-k-ne-COMPONENTS c = let six_is : (NumbersAt c.args.tokens.now c.loop-i.p vector_token 0 last_number c.in-Count.k) = (holds_count _ _ vector_token 0 last_number c.numbers_at-six.result _ c.numbers_at-six.ensures c.in-Count.is) in
     let a = c.args in
     let h = six_is in
-    record { shown = sym (vectors_uneven a.tokens.now a.at a.n c.loop-i.i c.loop-i.p _ c.loop-i.invariant.3 c.loop-i.invariant.1 (omega arith) _ h.0 h.1 c.if-k-ne6.true); within = tt }
+    record { shown = sym (vectors_uneven a.tokens.now a.at a.n c.loop-i.i c.loop-i.p _ c.loop-i.invariant.3 c.loop-i.invariant.1 (omega arith) _ h.0 h.1 c.if-k-ne-COMPONENTS.true); within = tt }
 
 pub loop-i-preserved : goal.loop-i-preserved
 loop-i-preserved c = let six_is : (NumbersAt c.args.tokens.now c.loop-i.p vector_token 0 last_number c.in-Count.k) = (holds_count _ _ vector_token 0 last_number c.numbers_at-six.result _ c.numbers_at-six.ensures c.in-Count.is) in
@@ -32,7 +32,7 @@ loop-i-preserved c = let six_is : (NumbersAt c.args.tokens.now c.loop-i.p vector
       omega arith,
       omega arith,
       omega arith,
-      vectors_turn a.tokens.now a.at a.n c.loop-i.i c.loop-i.p _ c.loop-i.invariant.3 c.loop-i.invariant.1 (omega arith) _ h.0 h.1 c.if-k-ne6.false,
+      vectors_turn a.tokens.now a.at a.n c.loop-i.i c.loop-i.p _ c.loop-i.invariant.3 c.loop-i.invariant.1 (omega arith) _ h.0 h.1 c.if-k-ne-COMPONENTS.false,
     )
 
 pub returns-then-tokens-p-ne1 : goal.returns-then-tokens-p-ne1

@@ -8,9 +8,9 @@ use Rattle.desktext.proofs.numbers.natural_at.Goals as goal
 pub returns-then-at-text : goal.returns-then-at-text
 returns-then-at-text c = let a = c.args in record { shown = sym (natural_end a.text.now a.at (omega arith)); onward = tt }
 
-pub returns-then-b-eq48 : goal.returns-then-b-eq48
-returns-then-b-eq48 c = let a = c.args in
-    record { shown = sym (natural_zero a.text.now a.at (omega arith) c.if-b-eq48.true); onward = (omega arith, omega arith, omega arith) }
+pub returns-then-b-eq-ZERO : goal.returns-then-b-eq-ZERO
+returns-then-b-eq-ZERO c = let a = c.args in
+    record { shown = sym (natural_zero a.text.now a.at (omega arith) c.if-b-eq-ZERO.true); onward = (omega arith, omega arith, omega arith) }
 
 pub returns-then-b-lt48 : goal.returns-then-b-lt48
 returns-then-b-lt48 c = let a = c.args in

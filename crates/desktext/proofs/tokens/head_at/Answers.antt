@@ -6,21 +6,21 @@ use lib.ListN.{drop}
 use Rattle.desktext.specs.Text.{item_head, or_else, named, number_seen}
 use Rattle.desktext.proofs.Laws.{head_end, head_other, head_space, head_line, else_found, else_other, finds_at, finds_none}
 use Rattle.desktext.proofs.tokens.head_at.Goals as goal
-use Rattle.desktext.proofs.tokens.head_at.Goals.{then-b-ne32+else-b-ne10, else-b-ne32, Joined-b-ne32}
+use Rattle.desktext.proofs.tokens.head_at.Goals.{then-b-ne32+else-b-ne-LINE_END, else-b-ne32, Joined-b-ne32}
 
 pub returns-then-at-text : goal.returns-then-at-text
 returns-then-at-text c = let a = c.args in record { shown = sym (head_end a.text.now a.at (omega arith)); onward = tt }
 
-pub returns-then-b-ne10 : goal.returns-then-b-ne10
-returns-then-b-ne10 c = let a = c.args in
-    record { shown = sym (head_other a.text.now a.at (omega arith) c.if-b-ne32.true c.if-b-ne10.true); onward = tt }
+pub returns-then-b-ne-LINE_END : goal.returns-then-b-ne-LINE_END
+returns-then-b-ne-LINE_END c = let a = c.args in
+    record { shown = sym (head_other a.text.now a.at (omega arith) c.if-b-ne32.true c.if-b-ne-LINE_END.true); onward = tt }
 
 parted : (c : Joined-b-ne32) → let a = c.args in
     item_head (drop a.at a.text.now) ≡ or_else (named (drop (a.at + 1) a.text.now)) (number_seen (drop (a.at + 1) a.text.now))
 parted c =
     let a = c.args in
     elim c.if-b-ne32.branch [
-      | then-b-ne32+else-b-ne10 w ↦ head_line a.text.now a.at (omega arith) w.if-b-ne10.false
+      | then-b-ne32+else-b-ne-LINE_END w ↦ head_line a.text.now a.at (omega arith) w.if-b-ne-LINE_END.false
       | else-b-ne32 w ↦ head_space a.text.now a.at (omega arith) w.if-b-ne32.false
     ]
 
