@@ -2,12 +2,13 @@
 // wrote it): the places that every record has, the numbers that stand there, whether an answer is the record's, and
 // the count of answers. A place behind the end holds 0.
 #![tactic(auto)]
+
 ghost use Rattle.std.specs.Prelude.{◌≡◌, ◌<◌, take, drop};
 ghost use Rattle.levels.specs.Codes.{signed};
 ghost use Rattle.records.specs.Records.{at8, at16, at32, at64, float_of, position_of, same_value, same_place, same_float, new_count, one_more, count_after};
 
 use bits::BitPos;
-use libc::{STDIN_FILENO, STDOUT_FILENO};
+use std::io::Read;
 
 // The places of a record, whatever its function.
 pub const REFUSAL: usize = 1;
@@ -47,6 +48,7 @@ pub fn byte(r: &[u8], at: usize) -> u8
     0
 }
 
+#[tactic(auto, unfolding(crate::specs::Records::at16))]
 pub fn number16(r: &[u8], at: usize) -> u64
     requires { at < 0x1_0000 }
     ensures { (result ≡ at16 r.now at) × (result < 0x1_0000) }
@@ -54,6 +56,7 @@ pub fn number16(r: &[u8], at: usize) -> u64
     wide(byte(r, at)) + 256 * wide(byte(r, at + 1))
 }
 
+#[tactic(auto, unfolding(crate::specs::Records::at32))]
 pub fn number32(r: &[u8], at: usize) -> u64
     requires { at < 0x8000 }
     ensures { (result ≡ at32 r.now at) × (result < 0x1_0000_0000) }
@@ -61,6 +64,7 @@ pub fn number32(r: &[u8], at: usize) -> u64
     number16(r, at) + 0x1_0000 * number16(r, at + 2)
 }
 
+#[tactic(auto, unfolding(crate::specs::Records::at64))]
 pub fn number64(r: &[u8], at: usize) -> u64
     requires { at < 0x4000 }
     ensures { result ≡ at64 r.now at }
@@ -176,48 +180,39 @@ fn one_more(c: Count, ok: bool) -> Count
 {
     Count {
         function: c.function,
-        answers: std::num::wrapping_add_u64(c.answers, 1),
-        wrong: if ok {
-            c.wrong
-        } else {
-            std::num::wrapping_add_u64(c.wrong, 1)
-        },
+        answers: c.answers.wrapping_add(1),
+        wrong: if ok { c.wrong } else { c.wrong.wrapping_add(1) },
     }
 }
 
 // Prints a count behind its name.
-fn print_count(name: &[u8], c: Count) {
-    io::write_all(STDOUT_FILENO, name);
-    io::write_all(STDOUT_FILENO, b": ");
-    io::print_decimal(STDOUT_FILENO, c.answers);
-    io::write_all(STDOUT_FILENO, b" answers, ");
-    io::print_decimal(STDOUT_FILENO, c.wrong);
-    io::write_all(STDOUT_FILENO, b" wrong\n");
+fn print_count(rt: &impl Print, name: &str, c: Count) {
+    let _ = println!(rt; "{name}: {} answers, {} wrong", c.answers, c.wrong);
 }
 
 // Prints a count behind the name of its function. No contract can say what is written.
-pub fn print(c: Count) {
+pub fn print(rt: &impl Print, c: Count) {
     let function = c.function;
     match function {
-        1 => print_count(b"read_u32", c),
-        2 => print_count(b"write_u32", c),
-        3 => print_count(b"hebap_from_address", c),
-        4 => print_count(b"endbap_for_gaqmod", c),
-        5 => print_count(b"fill_gaqbin", c),
-        6 => print_count(b"gaq_sections", c),
-        7 => print_count(b"gaq_gain_value", c),
-        8 => print_count(b"read_gaq_gains", c),
-        9 => print_count(b"read_scalar_aht_mantissas", c),
-        10 => print_count(b"vq_lookup", c),
-        11 => print_count(b"vq_search", c),
-        12 => print_count(b"quantise_scalar", c),
-        13 => print_count(b"quantise_bin", c),
-        14 => print_count(b"plan_aht_channel", c),
-        15 => print_count(b"write_aht_channel", c),
-        16 => print_count(b"read_aht_channel", c),
-        17 => print_count(b"read_three", c),
-        18 => print_count(b"print_pages", c),
-        _ => print_count(b"no function", c),
+        1 => print_count(rt, "read_u32", c),
+        2 => print_count(rt, "write_u32", c),
+        3 => print_count(rt, "hebap_from_address", c),
+        4 => print_count(rt, "endbap_for_gaqmod", c),
+        5 => print_count(rt, "fill_gaqbin", c),
+        6 => print_count(rt, "gaq_sections", c),
+        7 => print_count(rt, "gaq_gain_value", c),
+        8 => print_count(rt, "read_gaq_gains", c),
+        9 => print_count(rt, "read_scalar_aht_mantissas", c),
+        10 => print_count(rt, "vq_lookup", c),
+        11 => print_count(rt, "vq_search", c),
+        12 => print_count(rt, "quantise_scalar", c),
+        13 => print_count(rt, "quantise_bin", c),
+        14 => print_count(rt, "plan_aht_channel", c),
+        15 => print_count(rt, "write_aht_channel", c),
+        16 => print_count(rt, "read_aht_channel", c),
+        17 => print_count(rt, "read_three", c),
+        18 => print_count(rt, "print_pages", c),
+        _ => print_count(rt, "no function", c),
     }
 }
 
@@ -234,7 +229,7 @@ pub fn new_count(function: u8) -> Count
 
 // The count after the answer to a record. The records stand by function: where the next one begins, the count of the
 // last one is printed.
-pub fn counted(c: Count, r: &[u8], ok: bool) -> Count
+pub fn counted(rt: &impl Print, c: Count, r: &[u8], ok: bool) -> Count
     ensures { result ≡ count_after c (at8 r.now 0) ok }
 {
     let function = byte(r, 0);
@@ -242,13 +237,12 @@ pub fn counted(c: Count, r: &[u8], ok: bool) -> Count
         return one_more(c, ok);
     }
     if 0 < c.answers {
-        print(c);
+        print(rt, c);
     }
     one_more(new_count(function), ok)
 }
 
 // Reads the next record; false where the input has no whole one any more. No contract can say what is read.
-pub fn next(r: &mut [u8]) -> bool {
-    let len = r.len();
-    io::read_full(STDIN_FILENO, &mut *r) == len
+pub fn next(rt: &impl Input, r: &mut [u8]) -> bool {
+    rt.reader().read_exact(r).is_ok()
 }

@@ -1,10 +1,9 @@
--- `records::float_of` meets its contract: bits up to those of the infinities are no NaN's. Assumes nothing.
+-- Bits up to those of the infinities are no NaN's.
 use Rattle.std.proofs.Common.{◌≡◌, ℕ, ◌%◌, ◌<◌, ◌≤◌, Bool, not, T, sym, refl, ◌∙◌, subst, le-ltb, lt-ltb}
 use lib.Ieee.{binary32, nan_bits, of_bits, div}
 use lib.Ieee.Bits.{nan_bits_above}
 use Rattle.records.specs.Records.{float_of}
-use Rattle.records.proofs.float_of.Statement.{statement}
-use Rattle.records.proofs.float_of.Tie as tie
+use Rattle.records.proofs.float_of.Goals as goal
 
 is_number : (n : ℕ) → n % 2147483648 ≤ 2139095040 → T (not (nan_bits binary32 n))
 is_number n h = subst (λ (b : Bool). T (not b)) (sym (nan_bits_above binary32 n ∙ le-ltb _ _ h)) tt
@@ -17,14 +16,11 @@ is_not : (n : ℕ) → n % 2147483648 ≤ 2139095040 → of_bits binary32 n ≡ 
 unfolding float_of
 is_not n h = rw (le-ltb _ _ h) refl
 
-returns : tie.Need-returns
-returns c = is_nan _ c.if1.true
+pub returns-then-bits-gt2139095040 : goal.returns-then-bits-gt2139095040
+returns-then-bits-gt2139095040 c = is_nan _ c.if-bits-gt2139095040.true
 
-float_from_bits_result : tie.Need-float-from-bits-result
-float_from_bits_result c = is_number c.before.args.bits c.if1.false
+pub float_from_bits-result : goal.float_from_bits-result
+float_from_bits-result c = is_number c.args.bits c.if-bits-gt2139095040.false
 
-returns_2 : tie.Need-returns-2
-returns_2 c = is_not _ c.if1.false
-
-pub float_of_spec : {M : Type 1} → statement M
-float_of_spec = tie.close (tie.spec returns float_from_bits_result returns_2)
+pub returns : goal.returns
+returns c = is_not _ c.if-bits-gt2139095040.false

@@ -1,9 +1,8 @@
--- `records::same_float` meets its contract: what equals itself is no NaN, so it has bits. Assumes nothing.
-use Rattle.std.proofs.Common.{◌≡◌, ℕ, ◌*◌, Bool, true, false, not, T, eqb, List, sym, refl, ◌∙◌, subst, rules, eq-eqb}
+-- What equals itself is no NaN, so it has bits.
+use Rattle.std.proofs.Common.{◌≡◌, ℕ, ◌*◌, Bool, true, false, not, T, eqb, List, sym, refl, ◌∙◌, subst, eq-eqb}
 use lib.Ieee.{Float, nan, inf, fin, up, down, eq, ne, is_nan, binary32, to_bits}
 use Rattle.records.specs.Records.{at32, same_float}
-use Rattle.records.proofs.same_float.Statement.{statement}
-use Rattle.records.proofs.same_float.Tie as tie
+use Rattle.records.proofs.same_float.Goals as goal
 
 equals_itself : (y : Float) → eq y y ≡ not (is_nan y)
 unfolding eq is_nan
@@ -32,14 +31,11 @@ this : (r : List ℕ) (k : ℕ) (y : Float) {n : ℕ} → ne y y ≡ false → n
 unfolding same_float
 this r k y h e = rw (e, sym (number_or_not y) ∙ h) refl
 
-returns : tie.Need-returns
-returns c = not_this _ _ _ c.if1.true
+pub returns-then-y : goal.returns-then-y
+returns-then-y c = not_this _ _ _ c.if-y.true
 
-float_to_bits_result : tie.Need-float-to-bits-result
-float_to_bits_result c = is_number c.before.before.args.y c.if1.false
+pub float_to_bits-result : goal.float_to_bits-result
+float_to_bits-result c = is_number c.args.y c.if-y.false
 
-returns_2 : tie.Need-returns-2
-returns_2 c = this _ _ _ c.before.if1.false c.number32.ensures.0
-
-pub same_float_spec : {M : Type 1} → statement M
-same_float_spec = tie.close (tie.spec returns float_to_bits_result (λ c κs. search rules) (λ c. search rules) returns_2)
+pub returns : goal.returns
+returns c = this _ _ _ c.if-y.false c.number32.ensures.0
