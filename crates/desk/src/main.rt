@@ -1,7 +1,8 @@
 // The desk: a channel as text on standard input, its plan with the field as text on standard output.
 #![tactic(auto)]
+
 use desktext::View;
 
-fn main() {
-    desk_io::run(b"desk", View::WithField)
+fn main(rt: HostRuntime) {
+    desk_io::run(&rt, b"desk", View::WithField)
 }

@@ -1,9 +1,10 @@
 // The desk's programs: a channel as text on standard input, the answer on standard output. The work is desktext's.
 #![tactic(auto)]
+
 ghost use Rattle.std.specs.Prelude.{◌≤◌};
 
 use desktext::View;
-use libc::{STDERR_FILENO, STDIN_FILENO, STDOUT_FILENO};
+use std::io::{Read, Write};
 
 // How many bytes standard input gave, or that it cannot be read.
 #[derive(Clone, Copy)]
@@ -13,51 +14,57 @@ pub enum Input {
 }
 
 // Reads until the buffer is full or the input ends.
-fn read_input(buf: &mut [u8]) -> Input {
+fn read_input<R: Read>(reader: &mut R, buf: &mut [u8]) -> Input {
     let mut done: usize = 0;
     while done < buf.len() {
-        let got = libc::read(STDIN_FILENO, &mut buf[done..]);
-        if got < 0 {
-            return Input::Failed;
+        match reader.read(&mut buf[done..]) {
+            Ok(0) => return Input::Bytes(done),
+            Ok(n) => done += n,
+            Err(_) => return Input::Failed,
         }
-        let n = io::count(got, &buf[done..]);
-        if n == 0 {
-            return Input::Bytes(done);
-        }
-        done += n;
     }
     Input::Bytes(done)
 }
 
-// What went wrong, behind the program's name.
-fn complain(program: &[u8], what: &[u8]) {
-    io::write_all(STDERR_FILENO, program);
-    io::write_all(STDERR_FILENO, what);
+// What went wrong, behind the program's name. That it cannot be written either is told nobody.
+fn complain<E: Write>(errors: &mut E, program: &[u8], what: &[u8]) {
+    let _ = errors.write_all(program);
+    let _ = errors.write_all(what);
 }
 
 // The first n bytes of the output are the answer.
-fn print(program: &[u8], out: &[u8; 32768], n: usize)
+fn print<W: Write, E: Write>(
+    writer: &mut W,
+    errors: &mut E,
+    program: &[u8],
+    out: &[u8; 32768],
+    n: usize,
+)
     requires { n ≤ 32768 }
 {
     let all = &out[..];
-    if !io::write_all(STDOUT_FILENO, &all[..n]) {
-        complain(program, b": standard output cannot be written\n");
+    if writer.write_all(&all[..n]).is_err() {
+        complain(errors, program, b": standard output cannot be written\n");
     }
 }
 
 // Answers the text on standard input. The input has one byte more than a text may have: a longer text is refused
 // without being held whole.
-pub fn run(program: &[u8], view: View) {
+pub fn run(rt: &HostRuntime, program: &[u8], view: View) {
     let mut input = [0u8; 65537];
-    let got = read_input(&mut input);
+    let got = read_input(&mut rt.stdin(), &mut input);
     match got {
         Input::Failed => {
-            complain(program, b": standard input cannot be read\n");
+            complain(
+                &mut rt.stderr(),
+                program,
+                b": standard input cannot be read\n",
+            );
         }
         Input::Bytes(n) => {
             let mut out = [0u8; 32768];
             let k = desktext::desk_from(view, &input, n, &mut out);
-            print(program, &out, k)
+            print(&mut rt.stdout(), &mut rt.stderr(), program, &out, k)
         }
     }
 }

@@ -1,7 +1,8 @@
 // The desk's pages: a channel as text on standard input, the pages of its plan on standard output.
 #![tactic(auto)]
+
 use desktext::View;
 
-fn main() {
-    desk_io::run(b"pages", View::OnPages)
+fn main(rt: HostRuntime) {
+    desk_io::run(&rt, b"pages", View::OnPages)
 }
