@@ -1,6 +1,7 @@
 // Replays the recorded answers of the calls below the planner (tests/judge/record.rs has what a record is and how it
 // was made). Prints for each function how many answers were replayed and how many were wrong.
 #![tactic(auto)]
+
 ghost use Rattle.std.specs.Prelude.{◌≤◌};
 
 use answers::{ByteResult, SizeResult};
@@ -52,7 +53,7 @@ fn input(r: &Record) -> &[u8] {
 
 // Whether the n places of the output, in a copy of the record, are what the record has after the call.
 fn same_out(r: &Record, out: &Record, n: usize) -> bool {
-    check::same(records::part(out, OUT, n), records::part(r, OUT_AFTER, n))
+    records::part(out, OUT, n) == records::part(r, OUT_AFTER, n)
 }
 
 // Whether the six have the bits of the output after the call.
@@ -285,22 +286,23 @@ fn right(r: &Record) -> bool {
     }
 }
 
-fn next(r: &mut Record) -> bool {
-    records::next(&mut *r)
+fn next(rt: &impl Input, r: &mut Record) -> bool {
+    records::next(rt, r)
 }
 
-fn counted(c: Count, r: &Record) -> Count {
-    records::counted(c, r, right(r))
+fn counted(rt: &impl Print, c: Count, r: &Record) -> Count {
+    records::counted(rt, c, r, right(r))
 }
 
-// A proved loop has to end, so it counts its turns down, from a number that no input uses up.
-fn main() {
+// A proved loop has to end, so it counts its turns, up to a number that no input uses up.
+fn main(rt: HostRuntime) {
     let mut record = [0u8; 256];
     let mut c = records::new_count(0);
-    let mut turns = u64::MAX;
-    while 0 < turns && next(&mut record) {
-        c = counted(c, &record);
-        turns -= 1;
+    for _ in 0..u64::MAX {
+        if !next(&rt, &mut record) {
+            break;
+        }
+        c = counted(&rt, c, &record);
     }
-    records::print(c);
+    records::print(&rt, c);
 }

@@ -1,6 +1,7 @@
 // Replays the recorded answers of the calls that plan, write, read and print a channel, as replay does for the calls
 // below them: channels of up to eight bins (tests/judge/record_channels.rs has what a record is and how it was made).
 #![tactic(auto)]
+
 ghost use Rattle.std.specs.Prelude.{◌≤◌};
 
 use answers::SizeResult;
@@ -89,8 +90,7 @@ fn vectors(r: &Record) -> [f32; 48] {
 fn same_gains(r: &Record, gains: &[u8; 256]) -> bool {
     let zeros = channel::no_gains();
     let given = &gains[..];
-    check::same(&given[0..32], records::part(r, GAINS, 32))
-        && check::same(&given[32..256], &zeros[32..256])
+    &given[0..32] == records::part(r, GAINS, 32) && given[32..256] == zeros[32..256]
 }
 
 // ---- plan_aht_channel
@@ -144,10 +144,7 @@ fn same_write(r: &Record, answer: ChannelWrite) -> bool {
 
 // Whether the bytes, in a copy of the record, are what the record has after the call.
 fn same_bytes(r: &Record, out: &Record) -> bool {
-    check::same(
-        records::part(out, BYTES, 128),
-        records::part(r, BYTES_AFTER, 128),
-    )
+    records::part(out, BYTES, 128) == records::part(r, BYTES_AFTER, 128)
 }
 
 // The call writes to the bytes in a copy of the record.
@@ -286,22 +283,23 @@ fn right(r: &Record) -> bool {
     }
 }
 
-fn next(r: &mut Record) -> bool {
-    records::next(&mut *r)
+fn next(rt: &impl Input, r: &mut Record) -> bool {
+    records::next(rt, r)
 }
 
-fn counted(c: Count, r: &Record) -> Count {
-    records::counted(c, r, right(r))
+fn counted(rt: &impl Print, c: Count, r: &Record) -> Count {
+    records::counted(rt, c, r, right(r))
 }
 
-// A proved loop has to end, so it counts its turns down, from a number that no input uses up.
-fn main() {
+// A proved loop has to end, so it counts its turns, up to a number that no input uses up.
+fn main(rt: HostRuntime) {
     let mut record = [0u8; 1024];
     let mut c = records::new_count(0);
-    let mut turns = u64::MAX;
-    while 0 < turns && next(&mut record) {
-        c = counted(c, &record);
-        turns -= 1;
+    for _ in 0..u64::MAX {
+        if !next(&rt, &mut record) {
+            break;
+        }
+        c = counted(&rt, c, &record);
     }
-    records::print(c);
+    records::print(&rt, c);
 }
