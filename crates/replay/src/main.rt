@@ -147,10 +147,8 @@ fn replay_count(r: &Record, answer: SizeResult) -> bool {
 // The output before the call, as signed numbers.
 fn marks_of(r: &Record) -> [i8; 24] {
     let mut marks = [0i8; 24];
-    let mut i: usize = 0;
-    while i < 24 {
+    for i in 0..24 {
         marks[i] = records::signed8(r[OUT + i]);
-        i += 1;
     }
     marks
 }
@@ -158,12 +156,10 @@ fn marks_of(r: &Record) -> [i8; 24] {
 fn same_marks(r: &Record, n: usize, marks: &[i8; 24]) -> bool
     requires { n ≤ 24 }
 {
-    let mut i: usize = 0;
-    while i < n {
+    for i in 0..n {
         if marks[i] != records::signed8(r[OUT_AFTER + i]) {
             return false;
         }
-        i += 1;
     }
     true
 }

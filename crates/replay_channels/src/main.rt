@@ -78,10 +78,8 @@ fn row(r: &Record) -> &[u8] {
 // The components of eight bins.
 fn vectors(r: &Record) -> [f32; 48] {
     let mut x = [0.0f32; 48];
-    let mut j: usize = 0;
-    while j < 48 {
+    for j in 0..48 {
         x[j] = records::number(r, VECTORS + 4 * j);
-        j += 1;
     }
     x
 }
@@ -118,10 +116,8 @@ fn replay_plan(r: &Record, answer: Planned) -> bool {
 // The gains of a plan; the record's 32 stand again behind them, so that places that no gain uses hold something.
 fn gains_of(r: &Record) -> [u8; 256] {
     let mut gains = channel::no_gains();
-    let mut i: usize = 0;
-    while i < 256 {
+    for i in 0..256 {
         gains[i] = r[GAINS + i % 32];
-        i += 1;
     }
     gains
 }
@@ -171,8 +167,7 @@ fn replay_write(r: &Record, plan: Plan, x: [f32; 48]) -> bool {
 
 // Six values, six exact values and an index for each of eight bins.
 fn same_outputs(r: &Record, values: &[f32; 48], exact: &[i32; 48], indices: &[u16; 8]) -> bool {
-    let mut i: usize = 0;
-    while i < 48 {
+    for i in 0..48 {
         let bin = i / 6;
         if !records::same_float(r, VALUES + 4 * i, values[i]) {
             return false;
@@ -183,7 +178,6 @@ fn same_outputs(r: &Record, values: &[f32; 48], exact: &[i32; 48], indices: &[u1
         if indices[bin] != records::number16(r, INDICES + 2 * bin) as u16 {
             return false;
         }
-        i += 1;
     }
     true
 }
@@ -237,12 +231,10 @@ fn page_byte(r: &Record, at: usize) -> u8 {
 }
 
 fn same_pages(r: &Record, out: &Output) -> bool {
-    let mut i: usize = 0;
-    while i < 3300 {
+    for i in 0..3300 {
         if out[i] != page_byte(r, i) {
             return false;
         }
-        i += 1;
     }
     true
 }
