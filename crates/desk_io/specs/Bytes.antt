@@ -1,0 +1,10 @@
+-- What was read, where the reader says which bytes it has.
+use Rattle.std.specs.Prelude.{ℕ, ◌<◌, ◌≤◌, List, length, take}
+use Rattle.std.specs.Io.KnownBytes.{Consumes, IsAtEnd}
+use Rattle.std.specs.declared.option.Option.{Option}
+
+-- the first n bytes of a buffer came from the reader, which has none left where these do not fill it
+pub record IsRead (old new : Option (List ℕ)) (buf : List ℕ) (n : ℕ) : Type 0 where
+  pub inside : n ≤ length buf
+  pub given : Consumes old new (take n buf)
+  pub at_end : n < length buf → IsAtEnd new
