@@ -1,5 +1,5 @@
 -- The answer to what fills the input is that to all of the text: both are too long.
-use Rattle.std.proofs.Common.{◌≡◌, ℕ, ◌+◌, ◌<◌, ◌≤◌, List, [], ◌++◌, None, Some, IfSome, inl, inr, arith, refl, sym, ap, ◌∙◌, subst, length, take, length-append, append-nil, length-take-le}
+use Rattle.std.proofs.Common.{◌≡◌, ℕ, ◌<◌, List, [], ◌++◌, None, Some, IfSome, inl, inr, arith, sym, ap, ◌∙◌, subst, length, take, length-append, append-nil, length-take-le}
 use Rattle.std.proofs.lemmas.Bool.{cases_lt}
 use Rattle.std.specs.declared.option.Option.{Option}
 use Rattle.std.specs.Io.KnownBytes.{Appends}

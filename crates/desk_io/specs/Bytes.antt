@@ -1,4 +1,4 @@
--- What was read, where the reader says which bytes it has.
+-- What a call read, where the reader says which bytes it has.
 use Rattle.std.specs.Prelude.{ℕ, ◌<◌, ◌≤◌, List, length, take}
 use Rattle.std.specs.Io.KnownBytes.{Consumes, IsAtEnd}
 use Rattle.std.specs.declared.option.Option.{Option}
@@ -8,3 +8,7 @@ pub record IsRead (old new : Option (List ℕ)) (buf : List ℕ) (n : ℕ) : Typ
   pub inside : n ≤ length buf
   pub given : Consumes old new (take n buf)
   pub at_end : n < length buf → IsAtEnd new
+
+-- no more than so many bytes came from the reader
+abbrev pub ReadsFew : Option (List ℕ) → Option (List ℕ) → ℕ → Type 0
+ReadsFew old new most = (bs : List ℕ) × (length bs ≤ most) × Consumes old new bs

@@ -2,10 +2,10 @@
 // What is read and written is said of each reader and writer that knows its bytes. The system's do not know theirs.
 #![tactic(auto)]
 
-ghost use Rattle.std.specs.Prelude.{◌≡◌, ◌≤◌, take, IfOk, OnOk, IfSome, Err};
+ghost use Rattle.std.specs.Prelude.{◌≡◌, ◌≤◌, length, take, IfOk, OnOk, IfSome, Err};
 ghost use Rattle.std.specs.Io.KnownBytes.{Appends, Keeps};
 ghost use Rattle.desktext.specs.Desk.{desk_answer};
-ghost use Rattle.desk_io.specs.Bytes.{IsRead};
+ghost use Rattle.desk_io.specs.Bytes.{IsRead, ReadsFew};
 
 use desktext::View;
 use std::io;
@@ -20,7 +20,8 @@ pub enum Fault {
 
 // Reads until the buffer is full or the input ends. Returns how many bytes that is.
 fn read_input<R: Read>(reader: &mut R, buf: &mut [u8]) -> io::Result<usize>
-    ensures { IfOk result (IsRead (R.remaining reader.old) (R.remaining reader.new) buf.new) }
+    ensures front { IfOk result (IsRead (R.remaining reader.old) (R.remaining reader.new) buf.new) }
+    ensures limit { ReadsFew (R.remaining reader.old) (R.remaining reader.new) (length buf.new) }
 {
     let mut done: usize = 0;
     while done < buf.len() {
@@ -47,6 +48,7 @@ fn print<W: Write>(writer: &mut W, out: &[u8; 32768], n: usize) -> io::Result<()
 pub fn answer<R: Read, W: Write>(reader: &mut R, writer: &mut W, view: View) -> Result<(), Fault>
     ensures answered { OnOk result (IfSome (R.remaining reader.old)
         (λ text. Appends (W.contents writer.old) (W.contents writer.new) (desk_answer view text))) }
+    ensures limit { ReadsFew (R.remaining reader.old) (R.remaining reader.new) 65537 }
     ensures unread { result ≡ Err Fault.Unread → Keeps (W.contents writer.old) (W.contents writer.new) }
 {
     let mut input = [0u8; 65537];
