@@ -4,6 +4,8 @@
 #![tactic(auto)]
 
 ghost use Rattle.std.specs.Prelude.{◌≡◌, ◌<◌, take, drop};
+ghost use Rattle.std.specs.Bool.{OnTrue};
+ghost use Rattle.std.specs.Io.KnownBytes.{Consumes};
 ghost use Rattle.levels.specs.Codes.{signed};
 ghost use Rattle.records.specs.Records.{at8, at16, at32, at64, float_of, position_of, same_value, same_place, same_float, new_count, one_more, count_after};
 
@@ -242,7 +244,9 @@ pub fn counted(rt: &impl Print, c: Count, r: &[u8], ok: bool) -> Count
     one_more(new_count(function), ok)
 }
 
-// Reads the next record; false where the input has no whole one any more. No contract can say what is read.
-pub fn next(rt: &impl Input, r: &mut [u8]) -> bool {
-    rt.reader().read_exact(r).is_ok()
+// Reads the next record; false where the input has no whole one any more.
+pub fn next<R: Read>(reader: &mut R, r: &mut [u8]) -> bool
+    ensures { OnTrue result (Consumes (R.remaining reader.old) (R.remaining reader.new) r.new) }
+{
+    reader.read_exact(r).is_ok()
 }

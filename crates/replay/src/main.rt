@@ -11,6 +11,7 @@ use gains::GainsResult;
 use levels::Code;
 use quantiser::{PickResult, QuantisedBin};
 use records::Count;
+use std::io::Read;
 
 type Record = [u8; 256];
 
@@ -282,8 +283,8 @@ fn right(r: &Record) -> bool {
     }
 }
 
-fn next(rt: &impl Input, r: &mut Record) -> bool {
-    records::next(rt, r)
+fn next<R: Read>(reader: &mut R, r: &mut Record) -> bool {
+    records::next(reader, r)
 }
 
 fn counted(rt: &impl Print, c: Count, r: &Record) -> Count {
@@ -293,9 +294,10 @@ fn counted(rt: &impl Print, c: Count, r: &Record) -> Count {
 // A proved loop has to end, so it counts its turns, up to a number that no input uses up.
 fn main(rt: HostRuntime) {
     let mut record = [0u8; 256];
+    let mut reader = rt.stdin();
     let mut c = records::new_count(0);
     for _ in 0..u64::MAX {
-        if !next(&rt, &mut record) {
+        if !next(&mut reader, &mut record) {
             break;
         }
         c = counted(&rt, c, &record);
