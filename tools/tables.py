@@ -1,12 +1,13 @@
 #!/usr/bin/env python3
 """The tables of crates/tables, books and levels, made from the Rust's text, or compared with it.
 
-  tables.py FOLDER            writes the Rattle constants and the definitions' lists
-  tables.py FOLDER --check    compares them number by number; exit status 1 where one differs
+  tables.py FOLDER            writes the Rattle constants and the definitions' lists, as rt fmt lays them out
+  tables.py FOLDER --check    compares them number by number, and then the files with what would be written; exit status
+                              1 where one differs
 
 FOLDER is a copy of the Rust (src/eac3/aht.rs ..), or has its files as src--src--eac3--aht.rs.txt ..
 """
-import os, re, struct, sys
+import os, re, struct, sys, textwrap
 
 ROOT = os.path.dirname(os.path.dirname(os.path.abspath(__file__)))
 CODE = os.path.join(ROOT, 'crates/tables/src/consts.rt')
@@ -46,8 +47,8 @@ def rust(folder):
 
 
 def spec_name(name):
-    given = {'HEBAPTAB': 'hebaptab', 'HEBAP_MANT_BITS': 'mantBitsTable', 'VQ_BITS': 'vqBitsTable', 'GAQ_REMAP': 'gaqRemapTable'}
-    return given.get(name) or name.lower().replace('_h', 'H')
+    given = {'HEBAP_MANT_BITS': 'mant_bits_table', 'VQ_BITS': 'vq_bits_table', 'GAQ_REMAP': 'gaq_remap_table'}
+    return given.get(name) or name.lower()
 
 
 SECTION = {'HEBAPTAB': 'Table E3.1', 'HEBAP_MANT_BITS': 'Table E3.2', 'VQ_BITS': 'Table E3.2, hebap 1 to 7',
@@ -55,13 +56,19 @@ SECTION = {'HEBAPTAB': 'Table E3.1', 'HEBAP_MANT_BITS': 'Table E3.2', 'VQ_BITS':
 SECTION.update({'VQ_HEBAP%d' % h: 'Table E4.%d, six numbers a vector' % h for h in range(1, 8)})
 
 
+def constant(name, kind, words):
+    """The lines of a constant array in rt fmt's layout: on one line where that is short, else lines as full as 99 places allow."""
+    head = 'pub const %s: [%s; %d] = [' % (name, kind, len(words))
+    if len(', '.join(words)) <= 60:
+        return [head + ', '.join(words) + '];']
+    body = textwrap.wrap(', '.join(words) + ',', 99, initial_indent='    ', subsequent_indent='    ', break_on_hyphens=False)
+    return [head] + body + ['];']
+
+
 def code_text(tables):
     lines = ['// The tables of ATSC A/52 Annex E as the Rust has them, each flat. Made by tools/tables.py.']
     for name, kind, numbers in tables:
-        head = 'pub const %s: [%s; %d] = [' % (name, kind, len(numbers))
-        lines += ['', '// %s.' % SECTION[name].replace('≥', '>=')]
-        # as the formatter has it: one number to a line, unless all go on one
-        lines += [head + ', '.join(map(str, numbers)) + '];'] if len(numbers) <= 8 else [head] + ['    %d,' % x for x in numbers] + ['];']
+        lines += ['', '// %s.' % SECTION[name].replace('≥', '>=')] + constant(name, kind, [str(x) for x in numbers])
     return '\n'.join(lines) + '\n'
 
 
@@ -93,23 +100,24 @@ def scales(tables):
 def scales_text(tables):
     lines = ['// What the codes of a hebap and a gain have in common, a row each: hebap 8 to 19 at Gk 1, 2 and 4. By tools/tables.py.', '',
              '// By bit patterns: a and b (for x >= 0 and for x < 0) as fractions, 1 / 2^(m-1), 1 / 2^(bits of a large code - 1);',
-             '// then the bits of small and of large codes; a step of each and both b, the second by its size, in units of 2^-30.', 'pub const SCALES: [u32; 396] = [']
-    return '\n'.join(lines + ['    0x%08x,' % x if i < 5 else '    %d,' % x for row in scales(tables) for i, x in enumerate(row)] + ['];']) + '\n'
+             '// then the bits of small and of large codes; a step of each and both b, the second by its size, in units of 2^-30.']
+    words = ['0x%08x' % x if i < 5 else '%d' % x for row in scales(tables) for i, x in enumerate(row)]
+    return '\n'.join(lines + constant('SCALES', 'u32', words)) + '\n'
 
 
 def fractions_text(tables):
     lines = ['// The books as fractions, by their bit patterns, each in component order. Made by tools/tables.py.']
     for name, kind, numbers in tables:
         if name.startswith('VQ_HEBAP'):
-            lines += ['', '// %s: the first numbers of all vectors, then the second ones, and so on.' % SECTION[name].split(',')[0],
-                      'pub const %s: [u32; %d] = [' % (name, len(numbers))] + ['    0x%08x,' % x for x in fractions(numbers)] + ['];']
+            lines += ['', '// %s: the first numbers of all vectors, then the second ones, and so on.' % SECTION[name].split(',')[0]]
+            lines += constant(name, 'u32', ['0x%08x' % x for x in fractions(numbers)])
     return '\n'.join(lines) + '\n'
 
 
 def spec_text(tables):
     lines = ['-- The tables of ATSC A/52 Annex E, section 3.4, each flat. Made by tools/tables.py.',
-             'use mathlib.Core.List.{List, [], _∷_}', 'use Prim.Native.Nat.{ℕ}', 'use lib.IntN.{ℤ, pos, negℤ}', '',
-             'abbrev neg : ℕ → ℤ', 'neg n = negℤ (pos n)']
+             'use Rattle.std.specs.Prelude.{List, [], ◌∷◌, ℕ, ℤ, pos, neg_ℤ}', '',
+             'abbrev neg : ℕ → ℤ', 'neg n = neg_ℤ (pos n)']
     for name, kind, numbers in tables:
         signed = kind == 'i16'
         say = lambda x: str(x) if not signed else ('pos %d' % x if x >= 0 else 'neg %d' % -x)
@@ -144,11 +152,10 @@ def scales_read():
 def main():
     tables = rust(sys.argv[1])
     assert [len(t[2]) for t in tables] == [64, 20, 8, 84, 24, 48, 96, 192, 768, 1536, 3072], 'the Rust text was not read whole'
+    made = {CODE: code_text(tables), SPEC: spec_text(tables), FRACTIONS: fractions_text(tables), SCALES: scales_text(tables)}
     if '--check' not in sys.argv:
-        open(CODE, 'w', encoding='utf-8').write(code_text(tables))
-        open(SPEC, 'w', encoding='utf-8').write(spec_text(tables))
-        open(FRACTIONS, 'w', encoding='utf-8').write(fractions_text(tables))
-        open(SCALES, 'w', encoding='utf-8').write(scales_text(tables))
+        for path, lines in made.items():
+            open(path, 'w', encoding='utf-8').write(lines)
         return
     code, spec, by_component = ours()
     numbers = wrong = 0
@@ -169,8 +176,11 @@ def main():
     numbers += len(want)
     wrong += bad
     if bad: print('tables: scales: %d numbers differ' % bad)
+    other = [path for path, lines in made.items() if open(path, encoding='utf-8').read() != lines]
+    for path in other:
+        print('tables: %s is not as tools/tables.py writes it' % os.path.relpath(path, ROOT))
     print('tables: %d numbers compared with the Rust, %d different' % (numbers, wrong))
-    sys.exit(1 if wrong else 0)
+    sys.exit(1 if wrong or other else 0)
 
 
 main()
