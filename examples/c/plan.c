@@ -3,7 +3,7 @@
  * (examples/tie.plan), then the lines of its page that show bins. Then it reads the field back and compares. Exits
  * with 0 if all went well, else with 1 and a word on standard error.
  *
- *   cc -std=c99 -Wall -Wextra -Werror -Iinclude examples/c/plan.c target/staticlib/libfathrugg.a -o target/plan
+ *   cc -std=c99 -Wall -Wextra -Werror -Iinclude examples/c/plan.c crates/fathrugg/out/libfathrugg.a -o target/plan
  *
  * or, once tools/install has put the library where pkg-config finds it,
  *
