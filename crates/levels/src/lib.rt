@@ -49,6 +49,7 @@ pub fn large_bits(m: u32, gk: u8) -> u32
 }
 
 // How many bits a code takes, its tag with it.
+#[tactic(auto, using(tables::proofs::Rules::mant_bits_lem, crate::proofs::Signed::small_width, crate::proofs::Signed::large_width))]
 pub fn code_bits(hebap: u8, gk: u8, code: Code) -> u32
     requires { (8 ≤ hebap) × (hebap ≤ 19) }
     ensures { result ≡ code_bits (mant_bits hebap) gk code }
@@ -219,6 +220,7 @@ fn one_plus_slope(hebap: u8, gk: u8) -> i32
 }
 
 // 2^(17 - m) at Gk 2, 2^(16 - m) else
+#[tactic(auto, using(tables::proofs::Rules::mant_bits_lem))]
 fn power_at(hebap: u8, gk: u8) -> i32
     requires { (8 ≤ hebap) × (hebap ≤ 19) }
     ensures { result ≡ pos (2 ^ (cond (eqb gk 2) 17 16 - mant_bits hebap)) }
