@@ -54,6 +54,7 @@ fn read_tagged(src: &[u8], pos: BitPos, w: u32, v: u32) -> CodeResult
 }
 
 // A code of the hebap at the gain.
+#[tactic(auto, using(tables::proofs::Rules::mant_bits_lem, levels::proofs::CodeLaws::coded_tagged))]
 pub fn read_code(src: &[u8], pos: BitPos, hebap: u8, gk: u8) -> CodeResult
     requires le_hebap { (8 ≤ hebap) × (hebap ≤ 19) }
     requires pos_bound { bit_at pos ≤ 8 * length src.now }
@@ -303,6 +304,7 @@ fn read_bin(
     read_values(src, pos, hebap, gk, &mut *out, &mut *values, &mut *exact)
 }
 
+#[tactic(auto, using(crate::proofs::Laws::scalars_mode, crate::proofs::Laws::scalars_hebap, crate::proofs::Laws::scalars_past, crate::proofs::Laws::scalars_bin))]
 fn read_with(
     src: &[u8],
     pos: BitPos,

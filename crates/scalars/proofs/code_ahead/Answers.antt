@@ -1,88 +1,78 @@
 -- `scalars::code_ahead` meets its contract. Assumes nothing.
-use Prim.Native.Nat.{◌+◌, ◌*◌, ◌≤◌}
+use Prim.Native.Nat.{ℕ, ◌+◌, ◌*◌, ◌≤◌}
 use mathlib.Core.Path.{◌≡◌, sym, ◌∙◌}
-use mathlib.Core.Bool.{false}
+use mathlib.Core.List.{List}
 use native.Mathlib.Omega.{arith}
 use borrow.Author.Rules.{rules}
 use borrow.Author.Tests.{ne_eqb}
-use lib.Dec.{eqb}
-use lib.ListN.{length}
-use Rattle.bits.specs.Bits.{bit_at}
+use lib.ListN.{length, drop}
+use Rattle.bits.specs.Bits.{bits_of, bit_at}
+use Rattle.bits.specs.Format.{got}
 use Rattle.bits.proofs.Reading.{at_pos}
 use Rattle.tables.specs.Tables.{mant_bits}
-use Rattle.levels.specs.Codes.{tag, small_bits, large_bits}
+use Rattle.levels.specs.declared.Code.{Code}
+use Rattle.levels.specs.declared.CodeScale.{CodeScale}
+use Rattle.levels.specs.Codes.{tag, coded}
+use Rattle.levels.specs.Work.{IsScale}
 use Rattle.levels.proofs.Common.{m_range, small_is, large_is}
 use Rattle.scalars.proofs.Ahead.{number_at, small_read, large_read, Widths, widths}
 use Rattle.scalars.proofs.code_ahead.Goals as goal
 
+-- how wide the two parts of a code are
+both_widths : (s : CodeScale) → IsScale s → Widths s.small s.large
+both_widths s i = let m = m_range s i in rw (small_is s i, large_is s i) (widths (mant_bits s.hebap) s.gk m.0 m.1)
+
+module _ (s : CodeScale) (i : IsScale s) (other : s.gk ≡ 1 → ⊥) (src : List ℕ) (k : ℕ) (room : k + (s.small + s.large) ≤ 8 * length src) where
+  -- no tag: the first number is a small code
+  small_here : (number_at src k s.small ≡ tag s.small → ⊥)
+      → (coded (mant_bits s.hebap) s.gk).dec (drop k (bits_of src)) ≡ got (Code.Small (number_at src k s.small)) (drop (k + s.small) (bits_of src))
+  small_here t =
+      let b = both_widths s i in
+      let e = small_is s i in
+      rw e (small_read s.hebap s.gk src k (ne_eqb _ _ other) (omega arith) (omega arith) (λ q. t (rw e q)))
+
+  -- the tag: the number behind it is a large code
+  large_here : number_at src k s.small ≡ tag s.small
+      → (coded (mant_bits s.hebap) s.gk).dec (drop k (bits_of src)) ≡ got (Code.Large (number_at src (k + s.small) s.large)) (drop (k + (s.small + s.large)) (bits_of src))
+  large_here t =
+      let b = both_widths s i in
+      let e = small_is s i in
+      let f = large_is s i in
+      rw (e, f) (large_read s.hebap s.gk src k (ne_eqb _ _ other) (omega arith) (omega arith) (omega arith) (rw e at t))
+
 pub peek_word-u-requires : goal.peek_word-u-requires
-peek_word-u-requires c = let small_bits_lem : (c.args.s.small ≡ small_bits (mant_bits c.args.s.hebap) c.args.s.gk) = (small_is c.args.s c.requires.scale) in
-    let large_bits_lem : (c.args.s.large ≡ large_bits (mant_bits c.args.s.hebap) c.args.s.gk) = (large_is c.args.s c.requires.scale) in
-    let bounds : (Widths c.args.s.small c.args.s.large) = (let m = m_range c.args.s c.requires.scale in rw (small_bits_lem, large_bits_lem) (widths (mant_bits c.args.s.hebap) c.args.s.gk m.0 m.1)) in
-    let w = c.requires.bit_bound in let b = bounds in search rules
+peek_word-u-requires c = let b = both_widths c.args.s c.requires.scale in search rules
 
 pub overflow_sub-s : goal.overflow_sub-s
-overflow_sub-s c = let small_bits_lem : (c.args.s.small ≡ small_bits (mant_bits c.args.s.hebap) c.args.s.gk) = (small_is c.args.s c.requires.scale) in
-    let large_bits_lem : (c.args.s.large ≡ large_bits (mant_bits c.args.s.hebap) c.args.s.gk) = (large_is c.args.s c.requires.scale) in
-    let bounds : (Widths c.args.s.small c.args.s.large) = (let m = m_range c.args.s c.requires.scale in rw (small_bits_lem, large_bits_lem) (widths (mant_bits c.args.s.hebap) c.args.s.gk m.0 m.1)) in
-    let b = bounds in search rules
+overflow_sub-s c = (both_widths c.args.s c.requires.scale).one
 
 pub pow2-requires : goal.pow2-requires
-pow2-requires c = let small_bits_lem : (c.args.s.small ≡ small_bits (mant_bits c.args.s.hebap) c.args.s.gk) = (small_is c.args.s c.requires.scale) in
-    let large_bits_lem : (c.args.s.large ≡ large_bits (mant_bits c.args.s.hebap) c.args.s.gk) = (large_is c.args.s c.requires.scale) in
-    let bounds : (Widths c.args.s.small c.args.s.large) = (let m = m_range c.args.s c.requires.scale in rw (small_bits_lem, large_bits_lem) (widths (mant_bits c.args.s.hebap) c.args.s.gk m.0 m.1)) in
-    let b = bounds in search rules
+pow2-requires c = let b = both_widths c.args.s c.requires.scale in omega arith
 
 pub advance_bits-q-requires : goal.advance_bits-q-requires
-advance_bits-q-requires c = let small_bits_lem : (c.args.s.small ≡ small_bits (mant_bits c.args.s.hebap) c.args.s.gk) = (small_is c.args.s c.requires.scale) in
-    let large_bits_lem : (c.args.s.large ≡ large_bits (mant_bits c.args.s.hebap) c.args.s.gk) = (large_is c.args.s c.requires.scale) in
-    let bounds : (Widths c.args.s.small c.args.s.large) = (let m = m_range c.args.s c.requires.scale in rw (small_bits_lem, large_bits_lem) (widths (mant_bits c.args.s.hebap) c.args.s.gk m.0 m.1)) in
-    let w = c.requires.bit_bound in let b = bounds in search rules
+advance_bits-q-requires c = let b = both_widths c.args.s c.requires.scale in search rules
 
 pub peek_word-l-requires : goal.peek_word-l-requires
-peek_word-l-requires c = let small_bits_lem : (c.args.s.small ≡ small_bits (mant_bits c.args.s.hebap) c.args.s.gk) = (small_is c.args.s c.requires.scale) in
-    let large_bits_lem : (c.args.s.large ≡ large_bits (mant_bits c.args.s.hebap) c.args.s.gk) = (large_is c.args.s c.requires.scale) in
-    let bounds : (Widths c.args.s.small c.args.s.large) = (let m = m_range c.args.s c.requires.scale in rw (small_bits_lem, large_bits_lem) (widths (mant_bits c.args.s.hebap) c.args.s.gk m.0 m.1)) in
-    let w = c.requires.bit_bound in
-    let b = bounds in
-    rw c.advance_bits-q.ensures (omega arith, omega arith, omega arith, omega arith)
+peek_word-l-requires c = let b = both_widths c.args.s c.requires.scale in rw c.advance_bits-q.ensures (omega arith, omega arith, omega arith, omega arith)
 
 pub overflow_add-result : goal.overflow_add-result
-overflow_add-result c = let small_bits_lem : (c.args.s.small ≡ small_bits (mant_bits c.args.s.hebap) c.args.s.gk) = (small_is c.args.s c.requires.scale) in
-    let large_bits_lem : (c.args.s.large ≡ large_bits (mant_bits c.args.s.hebap) c.args.s.gk) = (large_is c.args.s c.requires.scale) in
-    let bounds : (Widths c.args.s.small c.args.s.large) = (let m = m_range c.args.s c.requires.scale in rw (small_bits_lem, large_bits_lem) (widths (mant_bits c.args.s.hebap) c.args.s.gk m.0 m.1)) in
-    let b = bounds in search rules
+overflow_add-result c = let b = both_widths c.args.s c.requires.scale in search rules
 
 pub returns-then-u-pow2 : goal.returns-then-u-pow2
-returns-then-u-pow2 c = let small_bits_lem : (c.args.s.small ≡ small_bits (mant_bits c.args.s.hebap) c.args.s.gk) = (small_is c.args.s c.requires.scale) in
-    let large_bits_lem : (c.args.s.large ≡ large_bits (mant_bits c.args.s.hebap) c.args.s.gk) = (large_is c.args.s c.requires.scale) in
-    let bounds : (Widths c.args.s.small c.args.s.large) = (let m = m_range c.args.s c.requires.scale in rw (small_bits_lem, large_bits_lem) (widths (mant_bits c.args.s.hebap) c.args.s.gk m.0 m.1)) in
-    let not_one : (eqb c.args.s.gk 1 ≡ false) = (ne_eqb _ _ c.requires.fact) in
-    let room : (bit_at c.args.pos + (c.args.s.small + c.args.s.large) ≤ 8 * length c.args.src.now) = (let w = c.requires.bit_bound in let b = bounds in omega arith) in
-    let first_is : (let a = c.args in
-    c.peek_word-u.result ≡ number_at a.src.now (bit_at a.pos) (small_bits (mant_bits a.s.hebap) a.s.gk)) = (c.peek_word-u.ensures ∙ rw (small_bits_lem)) in
-    let tag_is : (let a = c.args in c.pow2.result ≡ tag (small_bits (mant_bits a.s.hebap) a.s.gk)) = (c.pow2.ensures ∙ rw (small_bits_lem)) in
-    let a = c.args in
-    let h = a.s.hebap in
-    let g = a.s.gk in
-    let b = rw (small_bits_lem, large_bits_lem) at (bounds) in
-    let r = rw (small_bits_lem, large_bits_lem) at (room) in
-    let u : c.peek_word-l.result ≡ number_at a.src.now (bit_at a.pos + small_bits (mant_bits h) g) (large_bits (mant_bits h) g) =
-    c.peek_word-l.ensures ∙ rw (c.advance_bits-q.ensures, at_pos (bit_at a.pos + a.s.small), small_bits_lem, large_bits_lem) in record { src_value = rw (u, small_bits_lem, large_bits_lem) (large_read h g a.src.now (bit_at a.pos) (not_one) (omega arith) (omega arith) r (sym (first_is) ∙ c.if-u-pow2.true ∙ tag_is)); bits_bound = (bounds).both }
+returns-then-u-pow2 c =
+    let k = bit_at c.args.pos in
+    let b = both_widths c.args.s c.requires.scale in
+    record {
+      src_value = rw (c.peek_word-l.ensures, c.advance_bits-q.ensures, at_pos (k + c.args.s.small))
+          (large_here c.args.s c.requires.scale c.requires.fact c.args.src.now k (omega arith) (sym c.peek_word-u.ensures ∙ c.if-u-pow2.true ∙ c.pow2.ensures));
+      bits_bound = b.both;
+    }
 
 pub returns : goal.returns
-returns c = let small_bits_lem : (c.args.s.small ≡ small_bits (mant_bits c.args.s.hebap) c.args.s.gk) = (small_is c.args.s c.requires.scale) in
-    let large_bits_lem : (c.args.s.large ≡ large_bits (mant_bits c.args.s.hebap) c.args.s.gk) = (large_is c.args.s c.requires.scale) in
-    let bounds : (Widths c.args.s.small c.args.s.large) = (let m = m_range c.args.s c.requires.scale in rw (small_bits_lem, large_bits_lem) (widths (mant_bits c.args.s.hebap) c.args.s.gk m.0 m.1)) in
-    let not_one : (eqb c.args.s.gk 1 ≡ false) = (ne_eqb _ _ c.requires.fact) in
-    let room : (bit_at c.args.pos + (c.args.s.small + c.args.s.large) ≤ 8 * length c.args.src.now) = (let w = c.requires.bit_bound in let b = bounds in omega arith) in
-    let first_is : (let a = c.args in
-    c.peek_word-u.result ≡ number_at a.src.now (bit_at a.pos) (small_bits (mant_bits a.s.hebap) a.s.gk)) = (c.peek_word-u.ensures ∙ rw (small_bits_lem)) in
-    let tag_is : (let a = c.args in c.pow2.result ≡ tag (small_bits (mant_bits a.s.hebap) a.s.gk)) = (c.pow2.ensures ∙ rw (small_bits_lem)) in
-    let a = c.args in
-    let b = rw (small_bits_lem, large_bits_lem) at (bounds) in
-    let r = rw (small_bits_lem, large_bits_lem) at (room) in record {
-      src_value = rw (first_is, small_bits_lem)
-          (small_read a.s.hebap a.s.gk a.src.now (bit_at a.pos) (not_one) (omega arith) (omega arith) (λ e. c.if-u-pow2.false (first_is ∙ e ∙ sym (tag_is))));
-      bits_bound = let b = bounds in omega arith;
+returns c =
+    let b = both_widths c.args.s c.requires.scale in
+    record {
+      src_value = rw c.peek_word-u.ensures
+          (small_here c.args.s c.requires.scale c.requires.fact c.args.src.now (bit_at c.args.pos) (omega arith) (λ e. c.if-u-pow2.false (c.peek_word-u.ensures ∙ e ∙ sym c.pow2.ensures)));
+      bits_bound = omega arith;
     }
