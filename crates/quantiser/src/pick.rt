@@ -90,6 +90,7 @@ pub fn large_code(st: Steps, k: i64) -> CodeLevel
 }
 
 // The code for x and its level.
+#[tactic(auto, using(tables::proofs::Rules::mant_bits_lem))]
 pub fn pick(st: Steps, x: f32) -> CodeLevel
     requires { IsSteps st }
     ensures { result ≡ code_level (picked st.hebap st.gk x) }

@@ -7,7 +7,7 @@ use mir.ValLaws.{to_z-of_z}
 use Rattle.levels.specs.Value.{f0}
 use Rattle.quantiser.specs.Quantise.{clamp_z, value_at, slope_at, est_large}
 use Rattle.quantiser.specs.Round.{round_away}
-use Rattle.quantiser.proofs.Fixed.{Fixed, fixed}
+use Rattle.quantiser.proofs.Fixed.{fixed}
 use Rattle.quantiser.proofs.Ints.{held, held_is, less_fits}
 use Rattle.quantiser.proofs.Signs.{round_small}
 use Rattle.quantiser.proofs.pick.estimate_large.Goals as goal
@@ -27,15 +27,14 @@ less_fits_rounded : (r : ℤ) (y : Float) → mag r < 2 ^ 63 → r ≡ round_awa
 less_fits_rounded r y f e = rw (held_is r f e, +ℤ_comm (negsuc 0) (round_away y)) (less_fits (round_away y) (let l = round_small y in omega arith))
 
 pub highest-requires : goal.highest-requires
-highest-requires c = let parts : (Fixed c.args.st) = (fixed c.args.st c.requires.steps) in
-    (parts).n_range.1
+highest-requires c = (fixed c.args.st c.requires.steps).n_range.1
 
 pub returns-then-x : goal.returns-then-x
-returns-then-x c = let parts : (Fixed c.args.st) = (fixed c.args.st c.requires.steps) in
+returns-then-x c =
     let r = c.round_half_away-r in
     let hi = c.highest in
     let a = c.args in
-    let f = parts in
+    let f = fixed a.st c.requires.steps in
     held_is c.clamp.result c.clamp.type_inv
     (above a.st.hebap a.st.gk a.st.n a.x a.st.unit a.st.zero (f.unit_large c.requires.gk_nonzero)
     (held r.result) (held hi.result) c.clamp.result c.if-x.true f.zero_is
@@ -45,15 +44,14 @@ pub overflow_add-r : goal.overflow_add-r
 overflow_add-r c = let r = c.round_half_away-r-2 in less_fits_rounded r.result _ r.type_inv r.ensures
 
 pub lowest-requires : goal.lowest-requires
-lowest-requires c = let parts : (Fixed c.args.st) = (fixed c.args.st c.requires.steps) in
-    (parts).n_range.1
+lowest-requires c = (fixed c.args.st c.requires.steps).n_range.1
 
 pub returns : goal.returns
-returns c = let parts : (Fixed c.args.st) = (fixed c.args.st c.requires.steps) in
+returns c =
     let r = c.round_half_away-r-2 in
     let lo = c.lowest in
     let a = c.args in
-    let f = parts in
+    let f = fixed a.st c.requires.steps in
     held_is c.clamp-2.result c.clamp-2.type_inv
     (below a.st.hebap a.st.gk a.st.n a.x a.st.unit a.st.below (f.unit_large c.requires.gk_nonzero)
     (held r.result) (held (negsuc 0 +ℤ held r.result)) (held lo.result) c.clamp-2.result c.if-x.false f.below_is
