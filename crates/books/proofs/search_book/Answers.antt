@@ -1,22 +1,25 @@
 -- `books::search_book` meets its contract. Assumes nothing.
-use Prim.Native.Nat.{ℕ, ◌+◌, ◌*◌, ◌<◌, ◌≤◌}
+use Prim.Native.Nat.{ℕ, ◌+◌, ◌<◌}
 use mathlib.Core.Path.{◌∙◌, sym, ap, refl}
 use mathlib.Core.Bool.{false}
 use native.Mathlib.Nat.{sub-zero}
 use native.Mathlib.Omega.{arith}
 use borrow.Author.Rules.{rules}
 use lib.Ieee.{inf, of_bits, nan_bits}
-use lib.ListN.{length}
 use Rattle.tables.specs.Tables.{book}
 use Rattle.tables.proofs.Rules.{book_fits}
 use Rattle.books.specs.Books.{search_from}
 use Rattle.books.specs.Fractions.{floats}
-use Rattle.books.specs.Work.{NoNans, distance_in}
+use Rattle.books.specs.Work.{distance_in}
 use Rattle.books.proofs.Laws.{HasBook, book_of}
 use Rattle.books.proofs.Columns.{book_length, no_nans, searched}
 use Rattle.books.proofs.Steps.{on_from, by_end, four_on_lem, by_four, by_four_farther}
 use Rattle.books.proofs.search_book.Goals as goal
-use Rattle.books.proofs.search_book.Goals.{then-any_less, else-any_less, In-loop-k}
+use Rattle.books.proofs.search_book.Goals.{After-vectors_in-n, then-any_less, else-any_less}
+
+-- the book of the hebap, as n counts it
+there : (c : After-vectors_in-n) → HasBook c.args.hebap c.vectors_in-n.result
+there c = book_of c.args.hebap c.vectors_in-n.result c.requires.0 c.requires.1 c.vectors_in-n.ensures
 
 pub float_from_bits-s : goal.float_from_bits-s
 unfolding nan_bits
@@ -24,40 +27,30 @@ float_from_bits-s c = search rules
 
 pub loop-k-init : goal.loop-k-init
 unfolding of_bits
-loop-k-init c = let there : (HasBook c.args.hebap c.vectors_in-n.result) = (book_of c.args.hebap c.vectors_in-n.result c.requires.0 c.requires.1 c.vectors_in-n.ensures) in
+loop-k-init c =
     let a = c.args in
     let n = c.vectors_in-n.result in
     let pre = c.requires in
-    let k = there in
+    let k = there (goal.at.loop-k-init c).After-vectors_in-n in
     let few = k.few in
-    let e = c.vectors_in-n.ensures in
     let w = book_length a.hebap a.t.now pre.2 in (
       omega arith,
       refl,
       omega arith,
       omega arith,
       k.fours,
-      no_nans a.t.now n (book a.hebap) (λ i. book_fits a.hebap i pre.0 pre.1) k.some (omega arith) (rw e pre.2),
+      no_nans a.t.now n (book a.hebap) (λ i. book_fits a.hebap i pre.0 pre.1) k.some (omega arith) (rw c.vectors_in-n.ensures pre.2),
       ap (λ (m : ℕ). search_from (distance_in a.x.now (floats a.t.now) n) m 0 0 (inf false)) (sub-zero n),
     )
 
-distance_there : (c : In-loop-k) (i : ℕ) → i ≤ 3
-    → let n = c.vectors_in-n.result in let t = c.args.t.now in
-    ((n * 6 ≤ length t) × (n < 1024) × (c.loop-k.k + i < n)) × NoNans t
-distance_there c i u =
-    let inv = c.loop-k.invariant in
-    let h : c.loop-k.k + 3 < c.vectors_in-n.result = omega arith in
-    ((inv.2, inv.3, omega arith), inv.5)
-
 pub loop-k-preserved : goal.loop-k-preserved
 unfolding distance_in
-loop-k-preserved c = let four_there : ((c.loop-k.k + 3 < c.vectors_in-n.result) × (c.loop-k.k + 3 < 1024)) = ((omega arith, omega arith)) in
+loop-k-preserved c =
     let n = c.vectors_in-n.result in
-    let g = c.args in
-    let f = distance_in g.x.now (floats g.t.now) n in
+    let f = distance_in c.args.x.now (floats c.args.t.now) n in
     let k = c.loop-k.k in
     let s = c.loop-k.s in
-    let h = (four_there).0 in
+    let h : k + 3 < n = omega arith in
     let da = c.distance-a in
     let db = c.distance-b in
     let dc = c.distance-c in
@@ -77,30 +70,8 @@ loop-k-preserved c = let four_there : ((c.loop-k.k + 3 < c.vectors_in-n.result) 
     )
 
 pub returns : goal.returns
-returns c = let there : (HasBook c.args.hebap c.vectors_in-n.result) = (book_of c.args.hebap c.vectors_in-n.result c.requires.0 c.requires.1 c.vectors_in-n.ensures) in
+returns c =
     let n = c.vectors_in-n.result in
-    let g = c.args in
-    let e = sym (by_end (distance_in g.x.now (floats g.t.now) n) n c.loop-k.k c.loop-k.s c.loop-k-test.false) ∙ c.loop-k.invariant.6 in
-    searched g.hebap n g.t.now g.x.now _ c.vectors_in-n.ensures (there) c.requires.2 e
-
-pub distance-c-requires : goal.distance-c-requires
-distance-c-requires c = let both = distance_there (goal.at.distance-c-requires c).In-loop-k 2 (omega arith) in record { n_in_bounds = both.0; no_nans = both.1 }
-
-pub distance-d-requires : goal.distance-d-requires
-distance-d-requires c = let both = distance_there (goal.at.distance-d-requires c).In-loop-k 3 (omega arith) in record { n_in_bounds = both.0; no_nans = both.1 }
-
-pub overflow_add-k-then-any_less : goal.overflow_add-k-then-any_less
-overflow_add-k-then-any_less c = let four_there : ((c.loop-k.k + 3 < c.vectors_in-n.result) × (c.loop-k.k + 3 < 1024)) = ((omega arith, omega arith)) in
-    let h = (four_there).1 in search rules
-
-pub overflow_add-k-then-any_less-2 : goal.overflow_add-k-then-any_less-2
-overflow_add-k-then-any_less-2 c = let four_there : ((c.loop-k.k + 3 < c.vectors_in-n.result) × (c.loop-k.k + 3 < 1024)) = ((omega arith, omega arith)) in
-    let h = (four_there).1 in search rules
-
-pub overflow_add-k-then-any_less-3 : goal.overflow_add-k-then-any_less-3
-overflow_add-k-then-any_less-3 c = let four_there : ((c.loop-k.k + 3 < c.vectors_in-n.result) × (c.loop-k.k + 3 < 1024)) = ((omega arith, omega arith)) in
-    let h = (four_there).1 in search rules
-
-pub overflow_add-k-in-loop-k-3 : goal.overflow_add-k-in-loop-k-3
-overflow_add-k-in-loop-k-3 c = let four_there : ((c.loop-k.k + 3 < c.vectors_in-n.result) × (c.loop-k.k + 3 < 1024)) = ((omega arith, omega arith)) in
-    let h = (four_there).1 in search rules
+    let a = c.args in
+    let e = sym (by_end (distance_in a.x.now (floats a.t.now) n) n c.loop-k.k c.loop-k.s c.loop-k-test.false) ∙ c.loop-k.invariant.6 in
+    searched a.hebap n a.t.now a.x.now _ c.vectors_in-n.ensures (there (goal.at.returns c).After-vectors_in-n) c.requires.2 e
