@@ -304,7 +304,7 @@ fn read_bin(
     read_values(src, pos, hebap, gk, &mut *out, &mut *values, &mut *exact)
 }
 
-#[tactic(auto, using(crate::proofs::Laws::scalars_mode, crate::proofs::Laws::scalars_hebap, crate::proofs::Laws::scalars_past, crate::proofs::Laws::scalars_bin))]
+#[tactic(auto, using(crate::proofs::Laws::scalars_mode, crate::proofs::Laws::scalars_hebap, crate::proofs::Laws::scalars_past))]
 fn read_with(
     src: &[u8],
     pos: BitPos,
