@@ -8,60 +8,32 @@ use Rattle.channel.specs.Field.{coded_as, bin_of}
 use Rattle.writer.proofs.write_bin.Goals as goal
 
 pub write_index-requires : goal.write_index-requires
-write_index-requires c = let known : ((d : Coding) → c.coding_of.result ≡ d
-    → let a = c.args in
-    Range d a.hebap × (bin_of a.mode a.hebap a.gk ≡ coded_as d a.hebap a.gk)) = (λ d e. let a = c.args in
-    coded_bin a.mode a.hebap a.gk d c.requires.hebap_bound (sym c.coding_of.ensures ∙ e)) in
-    let b = known Coding.Book c.in-Book.is in
+write_index-requires c = let b = coded_bin c.args.mode c.args.hebap c.args.gk Coding.Book c.requires.hebap_bound (sym c.coding_of.ensures ∙ c.in-Book.is) in
     record { le_hebap = b.0; x_len = c.requires.x_len; fractions_loaded = c.requires.fractions_loaded; room = rw b.1 at c.requires.room }
 
 pub write_six-requires : goal.write_six-requires
-write_six-requires c = let known : ((d : Coding) → c.coding_of.result ≡ d
-    → let a = c.args in
-    Range d a.hebap × (bin_of a.mode a.hebap a.gk ≡ coded_as d a.hebap a.gk)) = (λ d e. let a = c.args in
-    coded_bin a.mode a.hebap a.gk d c.requires.hebap_bound (sym c.coding_of.ensures ∙ e)) in
-    let a = c.args in
-    let b = known Coding.Fixed c.in-Fixed.is in
+write_six-requires c = let a = c.args in
+    let b = coded_bin c.args.mode c.args.hebap c.args.gk Coding.Fixed c.requires.hebap_bound (sym c.coding_of.ensures ∙ c.in-Fixed.is) in
     record { le_hebap = (b.0, c.requires.hebap_bound); x_len = c.requires.x_len; bit_bound = c.requires.bit_bound; room = rw b.1 at c.requires.room }
 
 pub write_six-requires-in-Adaptive : goal.write_six-requires-in-Adaptive
-write_six-requires-in-Adaptive c = let known : ((d : Coding) → c.coding_of.result ≡ d
-    → let a = c.args in
-    Range d a.hebap × (bin_of a.mode a.hebap a.gk ≡ coded_as d a.hebap a.gk)) = (λ d e. let a = c.args in
-    coded_bin a.mode a.hebap a.gk d c.requires.hebap_bound (sym c.coding_of.ensures ∙ e)) in
-    let a = c.args in
-    let b = known Coding.Adaptive c.in-Adaptive.is in
+write_six-requires-in-Adaptive c = let a = c.args in
+    let b = coded_bin c.args.mode c.args.hebap c.args.gk Coding.Adaptive c.requires.hebap_bound (sym c.coding_of.ensures ∙ c.in-Adaptive.is) in
     record { le_hebap = (b.0, c.requires.hebap_bound); x_len = c.requires.x_len; bit_bound = c.requires.bit_bound; room = rw b.1 at c.requires.room }
 
 pub returns-in-Nothing : goal.returns-in-Nothing
-returns-in-Nothing c = let known : ((d : Coding) → c.coding_of.result ≡ d
-    → let a = c.args in
-    Range d a.hebap × (bin_of a.mode a.hebap a.gk ≡ coded_as d a.hebap a.gk)) = (λ d e. let a = c.args in
-    coded_bin a.mode a.hebap a.gk d c.requires.hebap_bound (sym c.coding_of.ensures ∙ e)) in
-    let a = c.args in
-    let b = known Coding.Nothing c.in-Nothing.is in
+returns-in-Nothing c = let a = c.args in
+    let b = coded_bin c.args.mode c.args.hebap c.args.gk Coding.Nothing c.requires.hebap_bound (sym c.coding_of.ensures ∙ c.in-Nothing.is) in
     rw b.1 (puts_none a.out.now a.p (λ i j. omega (arith, c.slice_known-1.given i)) c.requires.bit_bound)
 
 pub returns-in-Book : goal.returns-in-Book
-returns-in-Book c = let known : ((d : Coding) → c.coding_of.result ≡ d
-    → let a = c.args in
-    Range d a.hebap × (bin_of a.mode a.hebap a.gk ≡ coded_as d a.hebap a.gk)) = (λ d e. let a = c.args in
-    coded_bin a.mode a.hebap a.gk d c.requires.hebap_bound (sym c.coding_of.ensures ∙ e)) in
-    let b = known Coding.Book c.in-Book.is in
+returns-in-Book c = let b = coded_bin c.args.mode c.args.hebap c.args.gk Coding.Book c.requires.hebap_bound (sym c.coding_of.ensures ∙ c.in-Book.is) in
     rw b.1 c.write_index.ensures
 
 pub returns-in-Fixed : goal.returns-in-Fixed
-returns-in-Fixed c = let known : ((d : Coding) → c.coding_of.result ≡ d
-    → let a = c.args in
-    Range d a.hebap × (bin_of a.mode a.hebap a.gk ≡ coded_as d a.hebap a.gk)) = (λ d e. let a = c.args in
-    coded_bin a.mode a.hebap a.gk d c.requires.hebap_bound (sym c.coding_of.ensures ∙ e)) in
-    let b = known Coding.Fixed c.in-Fixed.is in
+returns-in-Fixed c = let b = coded_bin c.args.mode c.args.hebap c.args.gk Coding.Fixed c.requires.hebap_bound (sym c.coding_of.ensures ∙ c.in-Fixed.is) in
     rw b.1 c.write_six.ensures
 
 pub returns-in-Adaptive : goal.returns-in-Adaptive
-returns-in-Adaptive c = let known : ((d : Coding) → c.coding_of.result ≡ d
-    → let a = c.args in
-    Range d a.hebap × (bin_of a.mode a.hebap a.gk ≡ coded_as d a.hebap a.gk)) = (λ d e. let a = c.args in
-    coded_bin a.mode a.hebap a.gk d c.requires.hebap_bound (sym c.coding_of.ensures ∙ e)) in
-    let b = known Coding.Adaptive c.in-Adaptive.is in
+returns-in-Adaptive c = let b = coded_bin c.args.mode c.args.hebap c.args.gk Coding.Adaptive c.requires.hebap_bound (sym c.coding_of.ensures ∙ c.in-Adaptive.is) in
     rw b.1 c.write_six-in-Adaptive.ensures

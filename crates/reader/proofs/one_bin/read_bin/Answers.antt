@@ -8,38 +8,24 @@ use Rattle.channel.specs.Field.{coded_as, bin_of}
 use Rattle.reader.proofs.one_bin.read_bin.Goals as goal
 
 pub read_index-requires : goal.read_index-requires
-read_index-requires c = let known : ((d : Coding) → c.coding_of.result ≡ d
-    → let a = c.args in Range d a.hebap × (bin_of a.mode a.hebap a.gk ≡ coded_as d a.hebap a.gk)) = (λ d e. coded_bin c.args.mode c.args.hebap c.args.gk d c.requires.hebap_bound (sym c.coding_of.ensures ∙ e)) in
-    record { le_hebap = (known Coding.Book c.in-Book.is).0; inside = c.requires.inside; vectors_loaded = c.requires.vectors_loaded; bin_bound = c.requires.bin_bound }
+read_index-requires c = record { le_hebap = (coded_bin c.args.mode c.args.hebap c.args.gk Coding.Book c.requires.hebap_bound (sym c.coding_of.ensures ∙ c.in-Book.is)).0; inside = c.requires.inside; vectors_loaded = c.requires.vectors_loaded; bin_bound = c.requires.bin_bound }
 
 pub read_codes-requires : goal.read_codes-requires
-read_codes-requires c = let known : ((d : Coding) → c.coding_of.result ≡ d
-    → let a = c.args in Range d a.hebap × (bin_of a.mode a.hebap a.gk ≡ coded_as d a.hebap a.gk)) = (λ d e. coded_bin c.args.mode c.args.hebap c.args.gk d c.requires.hebap_bound (sym c.coding_of.ensures ∙ e)) in
-    record { le_hebap = ((known Coding.Fixed c.in-Fixed.is).0, c.requires.hebap_bound); inside = c.requires.inside; scales_loaded = c.requires.scales_loaded; bin_bound = c.requires.bin_bound }
+read_codes-requires c = record { le_hebap = ((coded_bin c.args.mode c.args.hebap c.args.gk Coding.Fixed c.requires.hebap_bound (sym c.coding_of.ensures ∙ c.in-Fixed.is)).0, c.requires.hebap_bound); inside = c.requires.inside; scales_loaded = c.requires.scales_loaded; bin_bound = c.requires.bin_bound }
 
 pub read_codes-requires-in-Adaptive : goal.read_codes-requires-in-Adaptive
-read_codes-requires-in-Adaptive c = let known : ((d : Coding) → c.coding_of.result ≡ d
-    → let a = c.args in Range d a.hebap × (bin_of a.mode a.hebap a.gk ≡ coded_as d a.hebap a.gk)) = (λ d e. coded_bin c.args.mode c.args.hebap c.args.gk d c.requires.hebap_bound (sym c.coding_of.ensures ∙ e)) in
-    record { le_hebap = ((known Coding.Adaptive c.in-Adaptive.is).0, c.requires.hebap_bound); inside = c.requires.inside; scales_loaded = c.requires.scales_loaded; bin_bound = c.requires.bin_bound }
+read_codes-requires-in-Adaptive c = record { le_hebap = ((coded_bin c.args.mode c.args.hebap c.args.gk Coding.Adaptive c.requires.hebap_bound (sym c.coding_of.ensures ∙ c.in-Adaptive.is)).0, c.requires.hebap_bound); inside = c.requires.inside; scales_loaded = c.requires.scales_loaded; bin_bound = c.requires.bin_bound }
 
 pub returns-in-Nothing : goal.returns-in-Nothing
-returns-in-Nothing c = let known : ((d : Coding) → c.coding_of.result ≡ d
-    → let a = c.args in Range d a.hebap × (bin_of a.mode a.hebap a.gk ≡ coded_as d a.hebap a.gk)) = (λ d e. coded_bin c.args.mode c.args.hebap c.args.gk d c.requires.hebap_bound (sym c.coding_of.ensures ∙ e)) in
-    let e = c.put_zeros.ensures in
-    rw (known Coding.Nothing c.in-Nothing.is).1
+returns-in-Nothing c = let e = c.put_zeros.ensures in
+    rw (coded_bin c.args.mode c.args.hebap c.args.gk Coding.Nothing c.requires.hebap_bound (sym c.coding_of.ensures ∙ c.in-Nothing.is)).1
     (record { is = ap BitMove.Done (sym (pos_is c.args.src.now c.args.pos c.requires.inside)); left = (e.values_after, e.exact_after, e.indices_after) })
 
 pub returns-in-Book : goal.returns-in-Book
-returns-in-Book c = let known : ((d : Coding) → c.coding_of.result ≡ d
-    → let a = c.args in Range d a.hebap × (bin_of a.mode a.hebap a.gk ≡ coded_as d a.hebap a.gk)) = (λ d e. coded_bin c.args.mode c.args.hebap c.args.gk d c.requires.hebap_bound (sym c.coding_of.ensures ∙ e)) in
-    rw (known Coding.Book c.in-Book.is).1 c.read_index.ensures
+returns-in-Book c = rw (coded_bin c.args.mode c.args.hebap c.args.gk Coding.Book c.requires.hebap_bound (sym c.coding_of.ensures ∙ c.in-Book.is)).1 c.read_index.ensures
 
 pub returns-in-Fixed : goal.returns-in-Fixed
-returns-in-Fixed c = let known : ((d : Coding) → c.coding_of.result ≡ d
-    → let a = c.args in Range d a.hebap × (bin_of a.mode a.hebap a.gk ≡ coded_as d a.hebap a.gk)) = (λ d e. coded_bin c.args.mode c.args.hebap c.args.gk d c.requires.hebap_bound (sym c.coding_of.ensures ∙ e)) in
-    rw (known Coding.Fixed c.in-Fixed.is).1 c.read_codes.ensures
+returns-in-Fixed c = rw (coded_bin c.args.mode c.args.hebap c.args.gk Coding.Fixed c.requires.hebap_bound (sym c.coding_of.ensures ∙ c.in-Fixed.is)).1 c.read_codes.ensures
 
 pub returns-in-Adaptive : goal.returns-in-Adaptive
-returns-in-Adaptive c = let known : ((d : Coding) → c.coding_of.result ≡ d
-    → let a = c.args in Range d a.hebap × (bin_of a.mode a.hebap a.gk ≡ coded_as d a.hebap a.gk)) = (λ d e. coded_bin c.args.mode c.args.hebap c.args.gk d c.requires.hebap_bound (sym c.coding_of.ensures ∙ e)) in
-    rw (known Coding.Adaptive c.in-Adaptive.is).1 c.read_codes-in-Adaptive.ensures
+returns-in-Adaptive c = rw (coded_bin c.args.mode c.args.hebap c.args.gk Coding.Adaptive c.requires.hebap_bound (sym c.coding_of.ensures ∙ c.in-Adaptive.is)).1 c.read_codes-in-Adaptive.ensures
