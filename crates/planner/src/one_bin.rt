@@ -66,6 +66,7 @@ fn one_if(b: bool) -> u32
 
 // Six codes of the bits small, and large more behind each tag. How many take the tag is counted, which the machine does
 // for several together.
+#[tactic(auto, using(crate::proofs::Steps::tagged_most, crate::proofs::Steps::tagged_turn, crate::proofs::Steps::product_most, channel::proofs::Over::one_small))]
 fn tagged_bits(x: &[f32], a: usize, limit: f32, small: u32, large: u32) -> u32
     requires a_in_bounds { a + 6 ≤ length x.now }
     requires small_bound { (small ≤ 16) × (large ≤ 16) }
@@ -139,6 +140,7 @@ pub fn plain_bits(hebap: u8) -> u32
 }
 
 // The bits of six components at one gain.
+#[tactic(auto, using(crate::proofs::Steps::width, crate::proofs::Steps::bits_1, crate::proofs::Steps::bits_2, crate::proofs::Steps::bits_4))]
 fn gain_bits(hebap: u8, x: &[f32], a: usize, gain: u8) -> u32
     requires le_hebap { (8 ≤ hebap) × (hebap ≤ 16) }
     requires a_in_bounds { a + 6 ≤ length x.now }

@@ -7,6 +7,7 @@ ghost use Rattle.planner.specs.Work.{mode_at, OneBinMore, FourModes, Small, AllS
 use super::{Costs, one_bin};
 
 // One bin in one mode: its bits at the cheapest gain, and where it is active that gain behind the gains before it.
+#[tactic(auto, using(crate::proofs::Steps::cost_small, crate::proofs::Tallies::count_one, crate::proofs::Tallies::count_none), unfolding(crate::specs::Work::mode_at))]
 fn tally_mode(mode: u8, hebap: u8, c: Costs, bits: &mut [u32], used: &mut [u32], kept: &mut [u8])
     requires mode_bound { (mode ≤ 3) × FourModes bits.old used.old kept.old }
     requires small { Small (mode_at bits.old used.old kept.old mode) }

@@ -1,7 +1,6 @@
 -- `planner::plan_bins` meets its contract. Assumes nothing.
 use Prim.Native.Nat.{◌≤◌}
 use mathlib.Core.Path.{◌≡◌, refl}
-use native.Mathlib.Nat.{le_refl}
 use lib.ListN.{length, get_or}
 use Rattle.planner.specs.Work.{AllFew}
 use Rattle.planner.proofs.Tallies.{tallies_start, all_few}
@@ -9,52 +8,53 @@ use Rattle.planner.proofs.Answer.{mode_most, count_few, plan_is}
 use native.Mathlib.Omega.{arith}
 use borrow.Author.Rules.{rules}
 use Rattle.planner.proofs.plan_bins.Goals as goal
+use Rattle.planner.proofs.plan_bins.Goals.{After-tally_bins-plain, After-best_mode-mode}
 
-pub tally_bins-plain-requires : goal.tally_bins-plain-requires
-tally_bins-plain-requires c = let k : length c.no_places-kept.result ≡ 1024 = search rules in
-    let w = tallies_start c.args.row.now c.args.x.now c.args.start c.no_counts-bits.result c.no_counts-used.result c.no_places-kept.result c.no_counts-bits.ensures c.no_counts-used.ensures k in
-    record { within = c.requires; four_modes = w.0; tallies_of = w.1 }
+-- no mode has many bits or gains
+few : (c : After-tally_bins-plain) → AllFew c.tally_bins-plain.result c.tally_bins-plain.new.bits c.tally_bins-plain.new.used
+few c =
+    let t = c.tally_bins-plain in
+    all_few c.args.row.now c.args.x.now c.args.start c.args.end t.result t.new.bits t.new.used t.new.kept t.ensures c.requires.row_ok.few
 
-pub best_mode-mode-requires : goal.best_mode-mode-requires
-best_mode-mode-requires c = let few : (AllFew c.tally_bins-plain.result c.tally_bins-plain.new.bits c.tally_bins-plain.new.used) = (let a = c.args in
-    all_few a.row.now a.x.now a.start a.end c.tally_bins-plain.result c.tally_bins-plain.new.bits c.tally_bins-plain.new.used c.tally_bins-plain.new.kept c.tally_bins-plain.ensures c.requires.row_ok.few) in
-    record { top_bound = (le_refl 3, search rules, search rules); all_few = few }
+-- the mode is one of the four, and has few gains
+most : (c : After-best_mode-mode) → (c.best_mode-mode.result ≤ 3) × (get_or c.tally_bins-plain.new.used c.best_mode-mode.result 0 ≤ 256)
+most c =
+    let a = c.args in
+    let t = c.tally_bins-plain in
+    let m = c.best_mode-mode in (
+      mode_most a.row.now a.x.now a.start a.end t.result t.new.bits t.new.used t.new.kept c.requires.row_ok.few t.ensures m.result m.ensures,
+      count_few a.row.now a.x.now a.start a.end t.result t.new.bits t.new.used t.new.kept c.requires.row_ok.few t.ensures m.result m.ensures,
+    )
+
+pub tally_bins-plain-requires-clause-tallies_of : goal.tally_bins-plain-requires-clause-tallies_of
+tally_bins-plain-requires-clause-tallies_of c =
+    let k : length c.no_places-kept.result ≡ 1024 = search rules in
+    (tallies_start c.args.row.now c.args.x.now c.args.start c.no_counts-bits.result c.no_counts-used.result c.no_places-kept.result c.no_counts-bits.ensures c.no_counts-used.ensures k).1
+
+pub best_mode-mode-requires-clause-all_few : goal.best_mode-mode-requires-clause-all_few
+best_mode-mode-requires-clause-all_few c = few (goal.at.best_mode-mode-requires-clause-all_few c).After-tally_bins-plain
 
 pub payload_in-payload-requires : goal.payload_in-payload-requires
-payload_in-payload-requires c = let few : (AllFew c.tally_bins-plain.result c.tally_bins-plain.new.bits c.tally_bins-plain.new.used) = (let a = c.args in
-    all_few a.row.now a.x.now a.start a.end c.tally_bins-plain.result c.tally_bins-plain.new.bits c.tally_bins-plain.new.used c.tally_bins-plain.new.kept c.tally_bins-plain.ensures c.requires.row_ok.few) in
-    let most : ((c.best_mode-mode.result ≤ 3) × (get_or c.tally_bins-plain.new.used c.best_mode-mode.result 0 ≤ 256)) = (let a = c.args in (
-      mode_most a.row.now a.x.now a.start a.end c.tally_bins-plain.result c.tally_bins-plain.new.bits c.tally_bins-plain.new.used c.tally_bins-plain.new.kept c.requires.row_ok.few c.tally_bins-plain.ensures c.best_mode-mode.result c.best_mode-mode.ensures,
-      count_few a.row.now a.x.now a.start a.end c.tally_bins-plain.result c.tally_bins-plain.new.bits c.tally_bins-plain.new.used c.tally_bins-plain.new.kept c.requires.row_ok.few c.tally_bins-plain.ensures c.best_mode-mode.result c.best_mode-mode.ensures,
-    )) in
-    record { mode_bound = ((most).0, search rules, search rules); all_few = few }
+payload_in-payload-requires c =
+    let at = goal.at.payload_in-payload-requires c in
+    record { mode_bound = ((most at.After-best_mode-mode).0, search rules, search rules); all_few = few at.After-tally_bins-plain }
 
 pub bounds-used-m : goal.bounds-used-m
-bounds-used-m c = let most : ((c.best_mode-mode.result ≤ 3) × (get_or c.tally_bins-plain.new.used c.best_mode-mode.result 0 ≤ 256)) = (let a = c.args in (
-  mode_most a.row.now a.x.now a.start a.end c.tally_bins-plain.result c.tally_bins-plain.new.bits c.tally_bins-plain.new.used c.tally_bins-plain.new.kept c.requires.row_ok.few c.tally_bins-plain.ensures c.best_mode-mode.result c.best_mode-mode.ensures,
-  count_few a.row.now a.x.now a.start a.end c.tally_bins-plain.result c.tally_bins-plain.new.bits c.tally_bins-plain.new.used c.tally_bins-plain.new.kept c.requires.row_ok.few c.tally_bins-plain.ensures c.best_mode-mode.result c.best_mode-mode.ensures,
-)) in
-    let m = (most).0 in omega arith
+bounds-used-m c = let m = most (goal.at.bounds-used-m c).After-best_mode-mode in omega arith
 
 pub overflow_cast-count : goal.overflow_cast-count
-overflow_cast-count c = let most : ((c.best_mode-mode.result ≤ 3) × (get_or c.tally_bins-plain.new.used c.best_mode-mode.result 0 ≤ 256)) = (let a = c.args in (
-  mode_most a.row.now a.x.now a.start a.end c.tally_bins-plain.result c.tally_bins-plain.new.bits c.tally_bins-plain.new.used c.tally_bins-plain.new.kept c.requires.row_ok.few c.tally_bins-plain.ensures c.best_mode-mode.result c.best_mode-mode.ensures,
-  count_few a.row.now a.x.now a.start a.end c.tally_bins-plain.result c.tally_bins-plain.new.bits c.tally_bins-plain.new.used c.tally_bins-plain.new.kept c.requires.row_ok.few c.tally_bins-plain.ensures c.best_mode-mode.result c.best_mode-mode.ensures,
-)) in
-    let m = (most).1 in omega arith
+overflow_cast-count c = let m = most (goal.at.overflow_cast-count c).After-best_mode-mode in omega arith
 
 pub gains_from-gains-requires : goal.gains_from-gains-requires
-gains_from-gains-requires c = let most : ((c.best_mode-mode.result ≤ 3) × (get_or c.tally_bins-plain.new.used c.best_mode-mode.result 0 ≤ 256)) = (let a = c.args in (
-  mode_most a.row.now a.x.now a.start a.end c.tally_bins-plain.result c.tally_bins-plain.new.bits c.tally_bins-plain.new.used c.tally_bins-plain.new.kept c.requires.row_ok.few c.tally_bins-plain.ensures c.best_mode-mode.result c.best_mode-mode.ensures,
-  count_few a.row.now a.x.now a.start a.end c.tally_bins-plain.result c.tally_bins-plain.new.bits c.tally_bins-plain.new.used c.tally_bins-plain.new.kept c.requires.row_ok.few c.tally_bins-plain.ensures c.best_mode-mode.result c.best_mode-mode.ensures,
-)) in
-    let o = most in
-    let n = o.1 in
-    let i = o.0 in
+gains_from-gains-requires c =
+    let m = most (goal.at.gains_from-gains-requires c).After-best_mode-mode in
     let k : length c.tally_bins-plain.new.kept ≡ 1024 = search rules in
-    (n, omega arith, omega arith)
+    (m.1, omega arith, omega arith)
 
 pub returns : goal.returns
-returns c = let a = c.args in
-    plan_is a.row.now a.x.now a.start a.end c.tally_bins-plain.result c.tally_bins-plain.new.bits c.tally_bins-plain.new.used c.tally_bins-plain.new.kept c.requires.row_ok.few c.tally_bins-plain.ensures c.best_mode-mode.result c.best_mode-mode.ensures
-    (get_or c.tally_bins-plain.new.used c.best_mode-mode.result 0) c.payload_in-payload.result c.gains_from-gains.result refl c.payload_in-payload.ensures c.gains_from-gains.ensures
+returns c =
+    let a = c.args in
+    let t = c.tally_bins-plain in
+    let m = c.best_mode-mode in
+    plan_is a.row.now a.x.now a.start a.end t.result t.new.bits t.new.used t.new.kept c.requires.row_ok.few t.ensures m.result m.ensures
+    (get_or t.new.used m.result 0) c.payload_in-payload.result c.gains_from-gains.result refl c.payload_in-payload.ensures c.gains_from-gains.ensures
