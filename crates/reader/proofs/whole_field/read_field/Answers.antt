@@ -2,22 +2,25 @@
 use native.Mathlib.Omega.{arith}
 use Rattle.reader.proofs.Whole.{ModeRead, mode_stop, mode_read, field_read}
 use Rattle.reader.proofs.whole_field.read_field.Goals as goal
+use Rattle.reader.proofs.whole_field.read_field.Goals.{In-Number}
+
+-- what the read mode says of the field
+mode : (c : In-Number) → let a = c.args in ModeRead a.row.now a.start a.end a.src.now a.pos c.in-Number.mode c.in-Number.next
+mode c = let a = c.args in mode_read a.row.now a.start a.end a.src.now a.pos _ _ _ c.read_u32-m.ensures c.in-Number.is
 
 pub overflow_cast-mode : goal.overflow_cast-mode
-overflow_cast-mode c = let mode : (let a = c.args in ModeRead a.row.now a.start a.end a.src.now a.pos c.in-Number.mode c.in-Number.next) = (let a = c.args in
-    mode_read a.row.now a.start a.end a.src.now a.pos c.read_u32-m.result _ _ c.read_u32-m.ensures c.in-Number.is) in
-    let f = (mode).few in record { fits = omega arith }
+overflow_cast-mode c = record { fits = omega (arith, (mode (goal.at.overflow_cast-mode c).In-Number).few) }
 
-pub read_behind-requires : goal.read_behind-requires
-read_behind-requires c = let mode : (let a = c.args in ModeRead a.row.now a.start a.end a.src.now a.pos c.in-Number.mode c.in-Number.next) = (let a = c.args in
-    mode_read a.row.now a.start a.end a.src.now a.pos c.read_u32-m.result _ _ c.read_u32-m.ensures c.in-Number.is) in
-    record { mode_bound = (mode).few; row_ok = c.requires.row_ok; inside = (mode).inside; gains_len = c.requires.gains_len; vectors_loaded = c.requires.vectors_loaded; scales_loaded = c.requires.scales_loaded; long = c.requires.long }
+pub read_behind-requires-clause-mode_bound : goal.read_behind-requires-clause-mode_bound
+read_behind-requires-clause-mode_bound c = (mode (goal.at.read_behind-requires-clause-mode_bound c).In-Number).few
+
+pub read_behind-requires-clause-inside : goal.read_behind-requires-clause-inside
+read_behind-requires-clause-inside c = (mode (goal.at.read_behind-requires-clause-inside c).In-Number).inside
 
 pub returns-in-Refused : goal.returns-in-Refused
-returns-in-Refused c = let a = c.args in
-    mode_stop a.row.now a.start a.end a.src.now a.pos c.read_u32-m.result _ _ _ _ _ c.read_u32-m.ensures c.in-Refused.is
+returns-in-Refused c =
+    let a = c.args in
+    mode_stop a.row.now a.start a.end a.src.now a.pos _ _ _ _ _ _ c.read_u32-m.ensures c.in-Refused.is
 
 pub returns-in-Number : goal.returns-in-Number
-returns-in-Number c = let mode : (let a = c.args in ModeRead a.row.now a.start a.end a.src.now a.pos c.in-Number.mode c.in-Number.next) = (let a = c.args in
-    mode_read a.row.now a.start a.end a.src.now a.pos c.read_u32-m.result _ _ c.read_u32-m.ensures c.in-Number.is) in
-    field_read (mode) c.read_behind.result _ _ _ _ c.read_behind.ensures
+returns-in-Number c = field_read (mode (goal.at.returns-in-Number c).In-Number) _ _ _ _ _ c.read_behind.ensures
