@@ -1,10 +1,9 @@
 -- `writer::write_bin` meets its contract. Assumes nothing.
-use Rattle.channel.proofs.Codings.{Range, coded_bin}
-use mathlib.Core.Path.{◌≡◌, sym, ◌∙◌}
+use Rattle.channel.proofs.Codings.{coded_bin}
+use mathlib.Core.Path.{sym, ◌∙◌}
 use native.Mathlib.Omega.{arith}
 use Rattle.gains.specs.declared.Coding.{Coding}
 use Rattle.writer.proofs.Turns.{puts_none}
-use Rattle.channel.specs.Field.{coded_as, bin_of}
 use Rattle.writer.proofs.write_bin.Goals as goal
 
 pub write_index-requires : goal.write_index-requires

@@ -1,10 +1,9 @@
 -- `reader::one_bin::read_bin` meets its contract. Assumes nothing.
-use Rattle.channel.proofs.Codings.{Range, coded_bin}
-use mathlib.Core.Path.{◌≡◌, sym, ap, ◌∙◌}
+use Rattle.channel.proofs.Codings.{coded_bin}
+use mathlib.Core.Path.{sym, ap, ◌∙◌}
 use Rattle.bits.proofs.Reading.{pos_is}
 use Rattle.gains.specs.declared.Coding.{Coding}
 use Rattle.bits.specs.declared.BitMove.{BitMove}
-use Rattle.channel.specs.Field.{coded_as, bin_of}
 use Rattle.reader.proofs.one_bin.read_bin.Goals as goal
 
 pub read_index-requires : goal.read_index-requires
