@@ -1,6 +1,5 @@
-// A reader that keeps the bytes and the position of the next bit, as the Rust has it. The borrow checker covers no
-// function over such a struct, so new, read_u32 and read_three are proved by hand, and leave the work to covered ones.
-// Callers with a plain slice use read_three, or bits' BitPos, and need no proof by hand.
+// A reader that keeps the bytes and the position of the next bit, as the Rust has it. Its functions are thin, and leave
+// the work to those over a plain slice. Callers with such a slice use read_three, or bits' BitPos.
 #![tactic(auto)]
 
 ghost use Rattle.std.specs.Prelude.{◌≡◌};

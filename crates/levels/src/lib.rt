@@ -9,7 +9,7 @@ ghost use Rattle.tables.specs.Tables.{mant_bits};
 ghost use Rattle.levels.specs.Component.{too_large, some_too_large};
 ghost use Rattle.levels.specs.Codes.{signed, small_bits, large_bits, code_bits, Accepted};
 ghost use Rattle.levels.specs.Exact.{slope, offset_by_sign, exact_of};
-ghost use Rattle.levels.specs.Value.{q15 as q15Of, power, gaq_remap, level_of, divided, value_in, value_of};
+ghost use Rattle.levels.specs.Value.{q15, power, gaq_remap, level_of, divided, value_in, value_of};
 ghost use Rattle.levels.specs.Work.{remap_of, remap_by, scale_of, IsScale, row_of, ScalesLoaded};
 
 mod consts;
@@ -122,7 +122,7 @@ pub fn divided_code(k: i32, n: u32) -> f32
 }
 
 pub fn q15(v: i16) -> f32
-    ensures { result ≡ q15Of v }
+    ensures { result ≡ q15 v }
 {
     v as f32 / 32768.0
 }

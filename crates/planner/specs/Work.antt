@@ -31,7 +31,7 @@ limits_of h = let m = mant_bits h in record { two = limit_of (m - 1) (m - 1); fo
 unfoldable pub component_bits : ℕ → ℕ → List Float → ℕ → ℕ
 component_bits h g x i = code_bits (mant_bits h) g (picked h g (get_or x i nan)).0
 
--- six codes, where the six components start at the place a: codes_bits of them, by the law six-codes
+-- six codes, where the six components start at the place a: codes_bits of them, by the law six_codes
 unfoldable pub six_bits : ℕ → List Float → ℕ → ℕ → ℕ
 six_bits h x a g = sum_over (component_bits h g x) a (a + 6)
 
