@@ -12,3 +12,7 @@ pub record IsRead (old new : Option (List ℕ)) (buf : List ℕ) (n : ℕ) : Typ
 -- no more than so many bytes came from the reader
 abbrev pub ReadsFew : Option (List ℕ) → Option (List ℕ) → ℕ → Type 0
 ReadsFew old new most = (bs : List ℕ) × (length bs ≤ most) × Consumes old new bs
+
+-- the reader was read to its end, or so many bytes of it
+abbrev pub IsReadOut : Option (List ℕ) → Option (List ℕ) → ℕ → Type 0
+IsReadOut old new most = (bs : List ℕ) × (length bs ≤ most) × Consumes old new bs × (length bs < most → IsAtEnd new)

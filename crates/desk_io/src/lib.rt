@@ -2,10 +2,10 @@
 // What is read and written is said of each reader and writer that knows its bytes. The system's do not know theirs.
 #![tactic(auto)]
 
-ghost use Rattle.std.specs.Prelude.{◌≡◌, ◌≤◌, length, take, IfOk, OnOk, IfSome, Err};
+ghost use Rattle.std.specs.Prelude.{◌≡◌, ◌≢◌, ◌≤◌, length, take, IfOk, OnOk, IfSome, Err};
 ghost use Rattle.std.specs.Io.KnownBytes.{Appends, Keeps};
 ghost use Rattle.desktext.specs.Desk.{desk_answer};
-ghost use Rattle.desk_io.specs.Bytes.{IsRead, ReadsFew};
+ghost use Rattle.desk_io.specs.Bytes.{IsRead, IsReadOut, ReadsFew};
 
 use desktext::View;
 use std::io;
@@ -49,6 +49,7 @@ pub fn answer<R: Read, W: Write>(reader: &mut R, writer: &mut W, view: View) -> 
     ensures answered { OnOk result (IfSome (R.remaining reader.old)
         (λ text. Appends (W.contents writer.old) (W.contents writer.new) (desk_answer view text))) }
     ensures limit { ReadsFew (R.remaining reader.old) (R.remaining reader.new) 65537 }
+    ensures read { result ≢ Err Fault.Unread → IsReadOut (R.remaining reader.old) (R.remaining reader.new) 65537 }
     ensures unread { result ≡ Err Fault.Unread → Keeps (W.contents writer.old) (W.contents writer.new) }
 {
     let mut input = [0u8; 65537];
