@@ -13,10 +13,10 @@ use Rattle.levels.specs.Work.{word_of}
 use Rattle.quantiser.specs.Quantise.{picked}
 use Rattle.quantiser.proofs.Facts.{picked_accepted}
 use Rattle.quantiser.proofs.Fixed.{steps_is, steps_names}
-use Rattle.writer.specs.Work.{Room}
 use Rattle.writer.proofs.Turns.{Next, left_all, left_room, left_next, left_none, puts_long, word_bits_lem, word_width}
 use Rattle.writer.proofs.Words.{codes_for, codes_next, codes_end}
 use Rattle.writer.proofs.write_six.Goals as goal
+use Rattle.writer.proofs.write_six.Goals.{After-word-w}
 
 pub loop-j-init : goal.loop-j-init
 loop-j-init c = let a = c.args in
@@ -25,50 +25,44 @@ loop-j-init c = let a = c.args in
 pub word-w-requires : goal.word-w-requires
 word-w-requires c = steps_is c.args.hebap c.args.gk _ c.steps_of-st.ensures c.requires.le_hebap.0 c.requires.le_hebap.1
 
-pub put-q-requires : goal.put-q-requires
-put-q-requires c = let room : (let a = c.args in Room (codes_for a.hebap a.gk a.x.now) a.p a.out.now) = (rw c.requires.x_len c.requires.room) in
-    let word_is : (let a = c.args in
+-- the word that was made is that of the quantiser's code
+word_is : (c : After-word-w) → let a = c.args in
     let code = (picked a.hebap a.gk (get_or a.x.now c.loop-j.j nan)).0 in
-    (c.word-w.result.bits ≡ word_of (mant_bits a.hebap) a.gk code) × (c.word-w.result.width ≡ code_bits (mant_bits a.hebap) a.gk code)) = (let a = c.args in
-    let n = steps_names a.hebap a.gk _ c.steps_of-st.ensures in
-    let e = rw (n.0, n.1) at c.word-w.ensures in (e.bits_value, e.width_value)) in
-    let turn : (let a = c.args in
+    (c.word-w.result.bits ≡ word_of (mant_bits a.hebap) a.gk code) × (c.word-w.result.width ≡ code_bits (mant_bits a.hebap) a.gk code)
+word_is c =
+    let n = steps_names c.args.hebap c.args.gk _ c.steps_of-st.ensures in
+    let e = rw (n.0, n.1) at c.word-w.ensures in
+    (e.bits_value, e.width_value)
+
+-- and stands before the codes that are left
+next_word : (c : After-word-w) → let a = c.args in
     Next (codes_for a.hebap a.gk (drop c.loop-j.j a.x.now)) (bits_n c.word-w.result.width c.word-w.result.bits)
-    (codes_for a.hebap a.gk (drop (c.loop-j.j + 1) a.x.now))) = (let a = c.args in
+    (codes_for a.hebap a.gk (drop (c.loop-j.j + 1) a.x.now))
+next_word c =
+    let a = c.args in
     let y = get_or a.x.now c.loop-j.j nan in
     let code = (picked a.hebap a.gk y).0 in
     let rest = codes_for a.hebap a.gk (drop (c.loop-j.j + 1) a.x.now) in
     let e : bits_n c.word-w.result.width c.word-w.result.bits ≡ bits_n (code_bits (mant_bits a.hebap) a.gk code) (word_of (mant_bits a.hebap) a.gk code) =
-    rw ((word_is).0, (word_is).1) in
+    rw ((word_is c).0, (word_is c).1) in
     record {
       is =
           codes_next a.hebap a.gk a.x.now c.loop-j.j c.loop-j-test.true
           ∙ ap (λ (bs : List Bool). bs ++ rest) (word_bits_lem a.hebap a.gk code (picked_accepted a.hebap a.gk y c.requires.le_hebap.0 c.requires.le_hebap.1) ∙ sym e);
-    }) in
+    }
+
+pub put-q-requires : goal.put-q-requires
+put-q-requires c =
     let a = c.args in
-    record { n_bound = rw (word_is).1 (word_width a.hebap a.gk (picked a.hebap a.gk (get_or a.x.now c.loop-j.j nan)).0 c.requires.le_hebap.0 c.requires.le_hebap.1); room = left_room c.loop-j.invariant.1 (turn) (room) }
+    let w = (goal.at.put-q-requires c).After-word-w in
+    record {
+      n_bound = rw (word_is w).1 (word_width a.hebap a.gk (picked a.hebap a.gk (get_or a.x.now c.loop-j.j nan)).0 c.requires.le_hebap.0 c.requires.le_hebap.1);
+      room = left_room c.loop-j.invariant.1 (next_word w) (rw c.requires.x_len c.requires.room);
+    }
 
 pub loop-j-preserved : goal.loop-j-preserved
-loop-j-preserved c = let room : (let a = c.args in Room (codes_for a.hebap a.gk a.x.now) a.p a.out.now) = (rw c.requires.x_len c.requires.room) in
-    let word_is : (let a = c.args in
-    let code = (picked a.hebap a.gk (get_or a.x.now c.loop-j.j nan)).0 in
-    (c.word-w.result.bits ≡ word_of (mant_bits a.hebap) a.gk code) × (c.word-w.result.width ≡ code_bits (mant_bits a.hebap) a.gk code)) = (let a = c.args in
-    let n = steps_names a.hebap a.gk _ c.steps_of-st.ensures in
-    let e = rw (n.0, n.1) at c.word-w.ensures in (e.bits_value, e.width_value)) in
-    let turn : (let a = c.args in
-    Next (codes_for a.hebap a.gk (drop c.loop-j.j a.x.now)) (bits_n c.word-w.result.width c.word-w.result.bits)
-    (codes_for a.hebap a.gk (drop (c.loop-j.j + 1) a.x.now))) = (let a = c.args in
-    let y = get_or a.x.now c.loop-j.j nan in
-    let code = (picked a.hebap a.gk y).0 in
-    let rest = codes_for a.hebap a.gk (drop (c.loop-j.j + 1) a.x.now) in
-    let e : bits_n c.word-w.result.width c.word-w.result.bits ≡ bits_n (code_bits (mant_bits a.hebap) a.gk code) (word_of (mant_bits a.hebap) a.gk code) =
-    rw ((word_is).0, (word_is).1) in
-    record {
-      is =
-          codes_next a.hebap a.gk a.x.now c.loop-j.j c.loop-j-test.true
-          ∙ ap (λ (bs : List Bool). bs ++ rest) (word_bits_lem a.hebap a.gk code (picked_accepted a.hebap a.gk y c.requires.le_hebap.0 c.requires.le_hebap.1) ∙ sym e);
-    }) in
-    (omega arith, left_next c.loop-j.invariant.1 (turn) (room) _ _ c.put-q.ensures)
+loop-j-preserved c =
+    (omega arith, left_next c.loop-j.invariant.1 (next_word (goal.at.loop-j-preserved c).After-word-w) (rw c.requires.x_len c.requires.room) _ _ c.put-q.ensures)
 
 pub shape_of-out : goal.shape_of-out
 shape_of-out c = puts_long c.loop-j.invariant.1.wrote
