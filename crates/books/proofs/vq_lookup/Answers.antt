@@ -6,7 +6,7 @@ use Rattle.books.proofs.vq_lookup.Goals as goal
 
 pub returns-in_default : goal.returns-in_default
 unfolding vq_lookup
-returns-in_default c = let r = c.in_default.in_default-own.rest in rw (without_book c.args.hebap (outside c.args.hebap r.0.0.0.0.0.0.1 r.0.0.0.0.0.1 r.0.0.0.0.1 r.0.0.0.1 r.0.0.1 r.0.1 r.1))
+returns-in_default c = let h = c.args.hebap in rw (without_book h (outside h (omega arith) (omega arith) (omega arith) (omega arith) (omega arith) (omega arith) (omega arith)))
 
 pub vector-requires : goal.vector-requires
 vector-requires c = let e = c.in-1.is in (omega arith, omega arith, rw e c.vq_hebap1-b.ensures)

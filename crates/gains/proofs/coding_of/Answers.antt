@@ -10,23 +10,23 @@ pub returns-in-0 : goal.returns-in-0
 returns-in-0 c = let a = c.args in coding_nothing a.gaqmod a.hebap c.in-0.is
 
 pub returns-in-1-to-7 : goal.returns-in-1-to-7
-returns-in-1-to-7 c = let a = c.args in let n = c.in-1-to-7.in_default-own.rest.1 in let u = c.in-1-to-7.if-hebap-lt8-own.true in coding_book a.gaqmod a.hebap (omega arith) (omega arith)
+returns-in-1-to-7 c = let a = c.args in coding_book a.gaqmod a.hebap (omega arith) (omega arith)
 
 pub returns-then-gaqmod-gt0 : goal.returns-then-gaqmod-gt0
 returns-then-gaqmod-gt0 c = let a = c.args in
-    coding_scalar a.gaqmod a.hebap c.in-8-to-11.if-hebap-lt8-own.false true (sym (lt-ltb 0 _ c.if-gaqmod-gt0.true) ∙ active_few a.gaqmod a.hebap c.in-8-to-11.if-hebap-lt8-own.false c.in-8-to-11.if-hebap-lt12-own.true)
+    coding_scalar a.gaqmod a.hebap (omega arith) true (sym (lt-ltb 0 _ c.if-gaqmod-gt0.true) ∙ active_few a.gaqmod a.hebap (omega arith) (omega arith))
 
 pub returns-else-gaqmod-gt0 : goal.returns-else-gaqmod-gt0
 returns-else-gaqmod-gt0 c = let a = c.args in
-    coding_scalar a.gaqmod a.hebap c.in-8-to-11.if-hebap-lt8-own.false false (sym (le-ltb 0 _ c.if-gaqmod-gt0.false) ∙ active_few a.gaqmod a.hebap c.in-8-to-11.if-hebap-lt8-own.false c.in-8-to-11.if-hebap-lt12-own.true)
+    coding_scalar a.gaqmod a.hebap (omega arith) false (sym (le-ltb 0 _ c.if-gaqmod-gt0.false) ∙ active_few a.gaqmod a.hebap (omega arith) (omega arith))
 
 pub returns-then-gaqmod-gt1 : goal.returns-then-gaqmod-gt1
 returns-then-gaqmod-gt1 c = let a = c.args in
-    coding_scalar a.gaqmod a.hebap c.in-12-to-16.if-hebap-lt8-own.false true (sym (lt-ltb 1 _ c.if-gaqmod-gt1.true) ∙ active_many a.gaqmod a.hebap c.in-12-to-16.if-hebap-lt12-own.false c.in-12-to-16.if-hebap-lt17-own.true)
+    coding_scalar a.gaqmod a.hebap (omega arith) true (sym (lt-ltb 1 _ c.if-gaqmod-gt1.true) ∙ active_many a.gaqmod a.hebap (omega arith) (omega arith))
 
 pub returns-else-gaqmod-gt1 : goal.returns-else-gaqmod-gt1
 returns-else-gaqmod-gt1 c = let a = c.args in
-    coding_scalar a.gaqmod a.hebap c.in-12-to-16.if-hebap-lt8-own.false false (sym (le-ltb 1 _ c.if-gaqmod-gt1.false) ∙ active_many a.gaqmod a.hebap c.in-12-to-16.if-hebap-lt12-own.false c.in-12-to-16.if-hebap-lt17-own.true)
+    coding_scalar a.gaqmod a.hebap (omega arith) false (sym (le-ltb 1 _ c.if-gaqmod-gt1.false) ∙ active_many a.gaqmod a.hebap (omega arith) (omega arith))
 
 pub returns-in_default : goal.returns-in_default
-returns-in_default c = let a = c.args in coding_scalar a.gaqmod a.hebap c.in_default.if-hebap-lt8-own.false false (active_high a.gaqmod a.hebap c.in_default.if-hebap-lt17-own.false)
+returns-in_default c = let a = c.args in coding_scalar a.gaqmod a.hebap (omega arith) false (active_high a.gaqmod a.hebap (omega arith))

@@ -2,6 +2,7 @@
 -- holds. Assumes nothing.
 use borrow.Author.Tests.{eq-eqb, ne_eqb}
 use Rattle.gains.specs.Gains.{gain_value}
+use native.Mathlib.Omega.{arith}
 use Rattle.gains.proofs.gain_value.Goals as goal
 
 pub returns-then-code-eq0 : goal.returns-then-code-eq0
@@ -26,4 +27,4 @@ returns-else-code-eq1 c = simp (c.in-3.is, ne_eqb _ _ c.if-code-eq0.false, ne_eq
 
 pub returns-in_default : goal.returns-in_default
 unfolding gain_value
-returns-in_default c = let r = c.in_default.in_default-own.rest in simp (ne_eqb _ _ c.if-code-eq0.false, ne_eqb _ _ r.0.0.1, ne_eqb _ _ r.0.1, ne_eqb _ _ r.1)
+returns-in_default c = let m = c.args.gaqmod in simp (ne_eqb _ _ c.if-code-eq0.false, ne_eqb m 1 (omega arith), ne_eqb m 2 (omega arith), ne_eqb m 3 (omega arith))

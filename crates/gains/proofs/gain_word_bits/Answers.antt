@@ -2,6 +2,7 @@
 use borrow.Author.Tests.{ne_eqb}
 use native.Mathlib.Nat.{mul_comm, one-mul}
 use Rattle.gains.specs.Gains.{word_bits, sections, gain_word_bits}
+use native.Mathlib.Omega.{arith}
 use Rattle.gains.proofs.gain_word_bits.Goals as goal
 
 pub returns-in-0 : goal.returns-in-0
@@ -14,4 +15,4 @@ returns-in-3 c = simp (c.in-3.is, mul_comm 5)
 
 pub returns-in_default : goal.returns-in_default
 unfolding gain_word_bits word_bits sections
-returns-in_default c = simp (ne_eqb _ _ c.in_default.in_default-own.rest.0.1, ne_eqb _ _ c.in_default.in_default-own.rest.1, one-mul)
+returns-in_default c = let m = c.args.gaqmod in simp (ne_eqb m 0 (omega arith), ne_eqb m 3 (omega arith), one-mul)

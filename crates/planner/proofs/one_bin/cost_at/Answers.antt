@@ -1,5 +1,6 @@
 -- `planner::one_bin::cost_at` meets its contract. Assumes nothing.
 use borrow.Author.Tests.{ne_eqb}
+use native.Mathlib.Omega.{arith}
 use Rattle.planner.specs.Work.{cost_in}
 use Rattle.planner.proofs.one_bin.cost_at.Goals as goal
 
@@ -13,4 +14,4 @@ returns-in-2 c = simp c.in-2.is
 
 pub returns-in_default : goal.returns-in_default
 unfolding cost_in
-returns-in_default c = simp (ne_eqb _ _ c.in_default.in_default-own.rest.0.1, ne_eqb _ _ c.in_default.in_default-own.rest.1)
+returns-in_default c = let k = c.args.gain in simp (ne_eqb k 1 (omega arith), ne_eqb k 2 (omega arith))

@@ -5,7 +5,7 @@ use lib.Ieee.{of_bits}
 use Rattle.tables.specs.Tables.{mant_bits}
 use Rattle.tables.specs.Numbers.{mant_bits_table}
 use Rattle.planner.specs.Work.{limits_of, limit_of}
-use borrow.Author.Rules.{rules}
+use native.Mathlib.Omega.{arith}
 use Rattle.planner.proofs.one_bin.limits_for.Goals as goal
 
 pub returns-in-8 : goal.returns-in-8
@@ -42,6 +42,4 @@ returns-in-15 c = sym (ap limits_of c.in-15.is)
 
 pub returns-in_default : goal.returns-in_default
 unfolding limits_of limit_of mant_bits mant_bits_table of_bits
-returns-in_default c = let r = c.in_default.in_default-own.rest in
-    let e = last_width c.args.hebap (search rules) (search rules) r.0.0.0.0.0.0.0.1 r.0.0.0.0.0.0.1 r.0.0.0.0.0.1 r.0.0.0.0.1 r.0.0.0.1 r.0.0.1 r.0.1 r.1 in
-    sym (ap limits_of e)
+returns-in_default c = sym (ap limits_of (last_width c.args.hebap (omega arith) (omega arith) (omega arith) (omega arith) (omega arith) (omega arith) (omega arith) (omega arith) (omega arith) (omega arith)))

@@ -27,7 +27,7 @@ loop-bin-preserved-then-hebap-lt17 c = let few : (c.loop-bin.bin < 256) = (let t
       omega arith,
       omega arith,
       c.tally_bin.ensures.four_modes_2,
-      λ m j. tally_next a.row.now a.x.now a.start c.loop-bin.bin c.loop-bin.plain m (mode_at c.loop-bin.bits c.loop-bin.used c.loop-bin.kept m) (v.3 m j) v.0 (few) c.in-8-to-16.if-hebap-lt8-own.false c.gain_costs-c.result c.gain_costs-c.ensures (mode_at c.tally_bin.new.bits c.tally_bin.new.used c.tally_bin.new.kept m) (c.tally_bin.ensures.one_bin_more m j),
+      λ m j. tally_next a.row.now a.x.now a.start c.loop-bin.bin c.loop-bin.plain m (mode_at c.loop-bin.bits c.loop-bin.used c.loop-bin.kept m) (v.3 m j) v.0 (few) (omega arith) c.gain_costs-c.result c.gain_costs-c.ensures (mode_at c.tally_bin.new.bits c.tally_bin.new.used c.tally_bin.new.kept m) (c.tally_bin.ensures.one_bin_more m j),
     )
 
 pub overflow_add-plain : goal.overflow_add-plain
