@@ -31,4 +31,4 @@ pub returns : goal.returns
 returns c = let a = c.args in let both = put_done (rw (take_all c.loop-i.i a.bytes.now (omega arith)) at c.loop-i.invariant.3) in record { value = both.0; out_after = both.1 }
 
 pub hex-requires : goal.hex-requires
-hex-requires c = omega (arith, c.shared_slice_known-in-loop-i-1.given c.loop-i.i)
+hex-requires c = omega arith

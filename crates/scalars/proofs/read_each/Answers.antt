@@ -42,8 +42,8 @@ loop-j-preserved c = let a = c.args in
       in_lists
           (one_more_lem c.loop-j.invariant.0 (omega arith) c.in-Read.code c.in-Read.next _ _ w.0 w.1 (next_in (goal.at.loop-j-preserved c).In-Read) (code_is (goal.at.loop-j-preserved c).In-Read) refl refl) _ _
           c.put_values.ensures.values_after c.put_values.ensures.exact_after,
-      c.values-1.given ∙ c.loop-j.invariant.1,
-      c.exact-1.given ∙ c.loop-j.invariant.2,
+      omega arith,
+      omega arith,
     )
 
 pub returns : goal.returns

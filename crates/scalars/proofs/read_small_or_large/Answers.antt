@@ -60,8 +60,8 @@ loop-j-preserved c = let a = c.args in
           (turn c.loop-j.d c.code_ahead-c.result.bits c.loop-j.invariant.0 w.0 w.1 (omega arith) c.code_ahead-c.result.code (code_is (goal.at.loop-j-preserved c).After-code_ahead-c) (room (goal.at.loop-j-preserved c).After-code_ahead-c) _ _ refl refl) _ _
           c.put_values.ensures.values_after c.put_values.ensures.exact_after,
       omega (arith, c.loop-j.invariant.1, c.code_ahead-c.ensures.bits_bound),
-      c.values-1.given ∙ c.loop-j.invariant.2,
-      c.exact-1.given ∙ c.loop-j.invariant.3,
+      omega arith,
+      omega arith,
     )
 
 pub advance_bits-requires : goal.advance_bits-requires

@@ -51,9 +51,9 @@ loop-bin-preserved c = let a = c.args in
       omega arith,
       omega arith,
       omega arith,
-      c.values-1.given ∙ c.loop-bin.invariant.3,
-      c.exact-1.given ∙ c.loop-bin.invariant.4,
-      c.indices-1.given ∙ c.loop-bin.invariant.5,
+      omega arith,
+      omega arith,
+      omega arith,
       one_more_lem c.loop-bin.invariant.6 c.loop-bin.n h c.gain_at-gk.result (omega arith) refl c.loop-bin.invariant.7 c.gain_at-gk.ensures _ _ c.requires.long G refl
           (record { is = sym c.in-Done.is ∙ w.is; left = w.left }),
       rank_turn a.mode a.row.now a.start c.loop-bin.bin c.loop-bin.n c.gains_used-n.result (active a.mode h) c.loop-bin.invariant.0 c.loop-bin.invariant.7 refl e,
