@@ -1,21 +1,23 @@
--- The shared answers as numbers and values: the number of the refusal, 0 for none, and the value, or what stood there
--- before where the call refuses.
-use Rattle.std.specs.Prelude.{ℕ}
-use Rattle.answers.specs.declared.ByteResult.{ByteResult}
-use Rattle.answers.specs.declared.SizeResult.{SizeResult}
+-- Answers: a value, or why the call refuses.
+use Rattle.std.specs.Prelude.{ℕ, Option, None, Some, Result, Ok, Err}
+use Rattle.answers.specs.declared.Refusal.{Refusal}
+use Rattle.answers.specs.Causes.{number}
 
-abbrev pub byte_number : ByteResult → ℕ
-byte_number (ByteResult.Value b) = 0
-byte_number (ByteResult.Refused n) = n
+-- the value where no cause holds, or the cause
+abbrev pub answered : {A : Type 0} → Option Refusal → A → Result A Refusal
+answered None a = Ok a
+answered (Some k) a = Err k
 
-abbrev pub byte_value : ℕ → ByteResult → ℕ
-byte_value v (ByteResult.Value b) = b
-byte_value v (ByteResult.Refused n) = v
+-- as C has it: the number, 0 for no refusal,
+abbrev pub answer_number : {A : Type 0} → Result A Refusal → ℕ
+answer_number (Ok a) = 0
+answer_number (Err k) = number k
 
-abbrev pub size_number : SizeResult → ℕ
-size_number (SizeResult.Value k) = 0
-size_number (SizeResult.Refused n) = n
+-- and what a place holds afterwards: what f makes of the value, or what stood there before
+abbrev pub after_answer : {A B : Type 0} → (A → B) → B → Result A Refusal → B
+after_answer f v (Ok a) = f a
+after_answer f v (Err k) = v
 
-abbrev pub size_value : ℕ → SizeResult → ℕ
-size_value v (SizeResult.Value k) = k
-size_value v (SizeResult.Refused n) = v
+-- the value itself
+abbrev pub value_or : {A : Type 0} → A → Result A Refusal → A
+value_or = after_answer (λ a. a)

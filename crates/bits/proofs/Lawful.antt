@@ -12,6 +12,8 @@ use lib.Dec.{leb, T}
 use borrow.Author.Tests.{le-leb, leb-true}
 use Rattle.bits.specs.Bits.{bits_n, number_of, splice}
 use Rattle.bits.proofs.Laws.{length_bits_n, number_bits, bits_number, number_of_lt}
+use Rattle.answers.specs.declared.Refusal.{Refusal}
+use Rattle.answers.specs.declared.Refusal.TheVariants.{InputEnds}
 use Rattle.bits.specs.Format.{Got, got, refused, and_then, Format, number, only, both, tested, shown, each, each_Ok, each_enc, each_dec}
 use Rattle.bits.specs.Work.{resume}
 
@@ -34,7 +36,7 @@ number_lawful n = record { back = b; sole = s }
         rw (le-leb n _ fits, take_at (bits_n n v) rest n (length_bits_n n v), drop_at (bits_n n v) rest n (length_bits_n n v), number_bits n v, mod-eq_of_lt h)
 
     go : (bs rest : List Bool) (v : ℕ) (t : Bool) → leb n (length bs) ≡ t
-        → cond t (got (number_of (take n bs)) (drop n bs)) (refused 8) ≡ got v rest → (bs ≡ bits_n n v ++ rest) × (v < 2 ^ n)
+        → cond t (got (number_of (take n bs)) (drop n bs)) (refused InputEnds) ≡ got v rest → (bs ≡ bits_n n v ++ rest) × (v < 2 ^ n)
     go bs rest v true h e =
         let k : length (take n bs) ≡ n = length-take-le n bs (leb-true _ _ h) in
         let ev : number_of (take n bs) ≡ v = cc in
@@ -70,7 +72,7 @@ module _ {A B : Type 0} (F : Format A) (G : A → Format B) (f : Lawful F) (g : 
   pub both_lawful : Lawful (both F G)
   both_lawful = record { back = both_back; sole = λ bs rest p q. both_first bs rest p (F.dec bs) refl q }
 
-module _ {A : Type 0} (F : Format A) (ok : A → Bool) (n : ℕ) (f : Lawful F) where
+module _ {A : Type 0} (F : Format A) (ok : A → Bool) (n : Refusal) (f : Lawful F) where
   tested_back : (a : A) (rest : List Bool) → (tested F ok n).Ok a → (tested F ok n).dec (F.enc a ++ rest) ≡ got a rest
   tested_back a rest h = rw (f.back a rest h.0, T_true (ok a) h.1)
 
@@ -183,7 +185,7 @@ module _ {R A : Type 0} (F : R → Format A) where
       go (got ys rest') = rw append_assoc
       go (refused n) = refl
 
-  pub resume_stop : (r : R) (rs : List R) (bs : List Bool) (xs : List A) (k : ℕ) → (F r).dec bs ≡ refused k → resume xs (each_dec F (r ∷ rs) bs) ≡ refused k
+  pub resume_stop : (r : R) (rs : List R) (bs : List Bool) (xs : List A) (k : Refusal) → (F r).dec bs ≡ refused k → resume xs (each_dec F (r ∷ rs) bs) ≡ refused k
   unfolding each_dec
   resume_stop r rs bs xs k e = rw e
 

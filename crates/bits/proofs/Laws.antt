@@ -14,10 +14,8 @@ use lib.Dec.{leb, eqb}
 use borrow.Author.Tests.{le-leb, lt-leb, leb-true, leb-false}
 use Rattle.bits.specs.Bits.{bit_of, digit, bits_n, number_of, bits_of, splice, bytes_of, bytes_with, pos_of, read_u32, write_u32, written}
 use Rattle.bits.specs.Work.{byte_with}
-use Rattle.bits.specs.declared.BitRead.{BitRead}
-use Rattle.bits.specs.declared.BitRead.TheVariants.{Number}
-use Rattle.bits.specs.declared.BitMove.{BitMove}
-use Rattle.bits.specs.declared.BitMove.TheVariants.{Done}
+use Rattle.std.specs.Prelude.{Ok, Err}
+use Rattle.answers.specs.declared.Refusal.TheVariants.{OutputFull, InputEnds, OutOfRange}
 
 digit_lt : (b : Bool) → digit b < 2
 digit_lt true = omega arith
@@ -234,28 +232,28 @@ number_next s at i q p v x c pw pw' hv hp hx hq hc e e' =
     rw (hv, hx, e, e') (number_step s at i q p c (8 - p - c) hp hq (omega arith))
 
 -- ---- the definitions by their cases
-pub read_wide : (s : List ℕ) (at n : ℕ) → 32 < n → read_u32 s at n ≡ BitRead.Refused 12
+pub read_wide : (s : List ℕ) (at n : ℕ) → 32 < n → read_u32 s at n ≡ Err OutOfRange
 unfolding read_u32
 read_wide s at n h = simp (lt-leb _ _ h)
 
-pub read_short : (s : List ℕ) (at n : ℕ) → n ≤ 32 → 8 * length s < at + n → read_u32 s at n ≡ BitRead.Refused 8
+pub read_short : (s : List ℕ) (at n : ℕ) → n ≤ 32 → 8 * length s < at + n → read_u32 s at n ≡ Err InputEnds
 unfolding read_u32
 read_short s at n h k = simp (le-leb _ _ h, lt-leb _ _ k)
 
-pub read_good : (s : List ℕ) (at n : ℕ) → n ≤ 32 → at + n ≤ 8 * length s → read_u32 s at n ≡ Number (number_of (take n (drop at (bits_of s)))) (pos_of (at + n))
+pub read_good : (s : List ℕ) (at n : ℕ) → n ≤ 32 → at + n ≤ 8 * length s → read_u32 s at n ≡ Ok (number_of (take n (drop at (bits_of s))), pos_of (at + n))
 unfolding read_u32
 read_good s at n h k = simp (le-leb _ _ h, le-leb _ _ k)
 
-pub write_wide : (s : List ℕ) (at v n : ℕ) → 32 < n → (write_u32 s at n ≡ BitMove.Refused 12) × (written s at v n ≡ s)
+pub write_wide : (s : List ℕ) (at v n : ℕ) → 32 < n → (write_u32 s at n ≡ Err OutOfRange) × (written s at v n ≡ s)
 unfolding write_u32 written
 write_wide s at v n h = (simp (lt-leb _ _ h), simp (lt-leb _ _ h))
 
-pub write_short : (s : List ℕ) (at v n : ℕ) → n ≤ 32 → 8 * length s < at + n → (write_u32 s at n ≡ BitMove.Refused 7) × (written s at v n ≡ s)
+pub write_short : (s : List ℕ) (at v n : ℕ) → n ≤ 32 → 8 * length s < at + n → (write_u32 s at n ≡ Err OutputFull) × (written s at v n ≡ s)
 unfolding write_u32 written
 write_short s at v n h k = (simp (le-leb _ _ h, lt-leb _ _ k), simp (le-leb _ _ h, lt-leb _ _ k))
 
 pub write_good : (s : List ℕ) (at v n : ℕ) → n ≤ 32 → at + n ≤ 8 * length s
-    → (write_u32 s at n ≡ Done (pos_of (at + n))) × (written s at v n ≡ bytes_with s at (bits_n n v))
+    → (write_u32 s at n ≡ Ok (pos_of (at + n))) × (written s at v n ≡ bytes_with s at (bits_n n v))
 unfolding write_u32 written
 write_good s at v n h k = (simp (le-leb _ _ h, le-leb _ _ k), simp (le-leb _ _ h, le-leb _ _ k))
 
@@ -389,7 +387,7 @@ module _ (s : List ℕ) (at v n : ℕ) (few : n ≤ 32) (room : at + n ≤ 8 * l
   inside = rw length_bits_of (omega arith)
 
   -- what was written is read there
-  pub written_read : read_u32 (written s at v n) at n ≡ Number (v % 2 ^ n) (pos_of (at + n))
+  pub written_read : read_u32 (written s at v n) at n ≡ Ok (v % 2 ^ n, pos_of (at + n))
   written_read =
       let l : length (written s at v n) ≡ length s = rw (write_good s at v n few room).1 (length_with s at (bits_n n v)) in
       let k : at + n ≤ 8 * length (written s at v n) = rw l room in

@@ -12,8 +12,9 @@ use borrow.Author.Tests.{le-leb, lt-leb, leb-true, leb-false}
 use Rattle.bits.specs.Bits.{bits_of, number_of, bit_at, pos_of, read_u32, Inside}
 use Rattle.bits.specs.Format.{Format, number, number_in, got, refused}
 use Rattle.bits.specs.declared.BitPos.{BitPos}
-use Rattle.bits.specs.declared.BitRead.{BitRead}
-use Rattle.bits.specs.declared.BitRead.TheVariants.{Number}
+use Rattle.std.specs.Prelude.{Result, Ok}
+use Rattle.answers.specs.declared.Refusal.{Refusal}
+use Rattle.answers.specs.declared.Refusal.TheVariants.{InputEnds}
 use Rattle.bits.proofs.Lawful.{Lawful}
 use Rattle.bits.proofs.Laws.{length_bits_of, read_good, read_short}
 
@@ -57,17 +58,18 @@ module _ (s : List ℕ) (at n : ℕ) (few : n ≤ 32) where
       go false e = number_short (leb-false _ _ e) o
 
   -- the same, of an answer that a match has taken apart
-  pub number_as : 0 < n ⊎ at ≤ 8 * length s → (r u : BitRead) → r ≡ read_u32 s at n → r ≡ u → (number n).dec (drop at (bits_of s)) ≡ number_in (bits_of s) u
+  pub number_as : 0 < n ⊎ at ≤ 8 * length s → (r u : Result (ℕ × BitPos) Refusal) → r ≡ read_u32 s at n → r ≡ u → (number n).dec (drop at (bits_of s)) ≡ number_in (bits_of s) u
   number_as o r u e f = number_read o ∙ ap (number_in (bits_of s)) (sym e ∙ f)
 
   -- a position that read_u32 gives is not past the end
-  pub next_inside : (v : ℕ) (p : BitPos) → read_u32 s at n ≡ Number v p → Inside (8 * length s) p
+  pub next_inside : (v : ℕ) (p : BitPos) → read_u32 s at n ≡ Ok (v, p) → Inside (8 * length s) p
   next_inside v p e = go (leb (at + n) (8 * length s)) refl
     where
       go : (t : Bool) → leb (at + n) (8 * length s) ≡ t → Inside (8 * length s) p
       go true q =
           let f : at + n ≤ 8 * length s = leb-true _ _ q in
-          let g : pos_of (at + n) ≡ p = cc (read_good s at n few f) in
+          let w : (number_of (take n (drop at (bits_of s))), pos_of (at + n)) ≡ (v, p) = cc (read_good s at n few f) in
+          let g : pos_of (at + n) ≡ p = ap (λ (x : ℕ × BitPos). x.1) w in
           rw (← g) (omega arith, omega arith)
       go false q =
           let f : 8 * length s < at + n = leb-false _ _ q in
@@ -83,7 +85,7 @@ module _ (s : List ℕ) (at n : ℕ) (few : n ≤ 32) where
   behind_inside f = (omega arith, omega arith)
 
   -- they are not
-  pub number_missing : 8 * length s < at + n → 0 < n ⊎ at ≤ 8 * length s → (number n).dec (drop at (bits_of s)) ≡ refused 8
+  pub number_missing : 8 * length s < at + n → 0 < n ⊎ at ≤ 8 * length s → (number n).dec (drop at (bits_of s)) ≡ refused InputEnds
   number_missing f o = number_short f o ∙ ap (number_in (bits_of s)) (read_short s at n few f)
 
 -- the position behind what was read, and the bits from there on

@@ -1,4 +1,4 @@
--- Formats made of numbers refuse with 8 alone, and more bits are enough for them. Assumes nothing.
+-- Formats made of numbers refuse with 8 (`InputEnds`) alone, and more bits are enough for them. Assumes nothing.
 use Prim.Native.Nat.{ℕ}
 use mathlib.Core.Path.{◌≡◌, refl, sym, ap, ◌∙◌}
 use mathlib.Core.List.{List, [], ◌∷◌, ◌++◌, append_assoc}
@@ -7,6 +7,8 @@ use native.Mathlib.Omega.{arith}
 use borrow.Author.Tests.{le-leb}
 use lib.Dec.{leb}
 use lib.ListN.{length, length-append, length-replicate, take, drop, replicate}
+use Rattle.answers.specs.declared.Refusal.{Refusal}
+use Rattle.answers.specs.declared.Refusal.TheVariants.{InputEnds}
 use Rattle.bits.specs.Bits.{number_of}
 use Rattle.bits.specs.Format.{Got, got, refused, and_then, Format, number, only, both, tested, shown, each, each_dec}
 use Rattle.bits.proofs.Lawful.{Lawful}
@@ -14,7 +16,7 @@ use Rattle.bits.proofs.Lawful.{Lawful}
 -- ---- a refusal is an 8
 abbrev pub Eight : {A : Type 0} → Got A → Type 0
 Eight (got a rest) = Unit {0}
-Eight (refused k) = k ≡ 8
+Eight (refused k) = k ≡ InputEnds
 
 abbrev pub Eights : {A : Type 0} → Format A → Type 0
 Eights F = (bs : List Bool) → Eight (F.dec bs)
@@ -27,7 +29,7 @@ pub number_eights : (n : ℕ) → Eights (number n)
 unfolding number
 number_eights n bs = go (leb n (length bs))
   where
-    go : (t : Bool) → Eight (cond t (got (number_of (take n bs)) (drop n bs)) (refused 8))
+    go : (t : Bool) → Eight (cond t (got (number_of (take n bs)) (drop n bs)) (refused InputEnds))
     go true = tt
     go false = refl
 
@@ -49,26 +51,26 @@ each_eights F f (r ∷ rs) bs =
 -- ---- more bits are enough
 pub record Enough {A : Type 0} (F : Format A) (bs : List Bool) : Type 0 where
   pub more : List Bool
-  pub done : F.dec (bs ++ more) ≡ refused 8 → ⊥
+  pub done : F.dec (bs ++ more) ≡ refused InputEnds → ⊥
 
 abbrev pub Ends : {A : Type 0} → Format A → Type 0
 Ends F = (bs : List Bool) → Enough F bs
 
-pub got_not : {A : Type 0} (a : A) (rest : List Bool) (k : ℕ) → got a rest ≡ refused k → ⊥
+pub got_not : {A : Type 0} (a : A) (rest : List Bool) (k : Refusal) → got a rest ≡ refused k → ⊥
 got_not a rest k e = let z : ◌≡◌ {A = ℕ} 0 1 = cc in omega arith
 
 pub number_ends : (n : ℕ) → Ends (number n)
 unfolding number
 number_ends n bs = record {
   more = replicate n false;
-  done = λ e. got_not _ _ 8 (sym (ap (λ (t : Bool). cond t (got (number_of (take n (bs ++ replicate n false))) (drop n (bs ++ replicate n false))) (refused 8)) long) ∙ e);
+  done = λ e. got_not _ _ InputEnds (sym (ap (λ (t : Bool). cond t (got (number_of (take n (bs ++ replicate n false))) (drop n (bs ++ replicate n false))) (refused InputEnds)) long) ∙ e);
 }
   where
     long : leb n (length (bs ++ replicate n false)) ≡ true
     long = le-leb n _ (rw (length-append, length-replicate) (omega arith))
 
 pub only_ends : {A : Type 0} (a : A) → Ends (only a)
-only_ends a bs = record { more = []; done = got_not a (bs ++ []) 8 }
+only_ends a bs = record { more = []; done = got_not a (bs ++ []) InputEnds }
 
 -- what is read stays read with more behind it
 kept : {A : Type 0} (F : Format A) → Lawful F → (bs rest more : List Bool) (a : A) → F.dec bs ≡ got a rest → F.dec (bs ++ more) ≡ got a (rest ++ more)
@@ -78,13 +80,13 @@ kept F f bs rest more a e =
 
 -- one format, and then what goes by its value
 module _ {A B : Type 0} (F : Format A) (l : Lawful F) (f : Ends F) (D : A → List Bool → Got B) (more : A → List Bool → List Bool)
-    (done : (a : A) (rest : List Bool) → D a (rest ++ more a rest) ≡ refused 8 → ⊥) where
+    (done : (a : A) (rest : List Bool) → D a (rest ++ more a rest) ≡ refused InputEnds → ⊥) where
   abbrev run : List Bool → Got B
   run bs = and_then (F.dec bs) D
 
   record Runs (bs : List Bool) : Type 0 where
     pub bits : List Bool
-    pub ends : run (bs ++ bits) ≡ refused 8 → ⊥
+    pub ends : run (bs ++ bits) ≡ refused InputEnds → ⊥
 
   runs : (bs : List Bool) → Runs bs
   runs bs = go (F.dec (bs ++ (f bs).more)) refl
@@ -99,8 +101,8 @@ module _ {A B : Type 0} (F : Format A) (l : Lawful F) (f : Ends F) (D : A → Li
       go (refused k) e = record {
         bits = (f bs).more;
         ends = λ q.
-            let r : ◌≡◌ {A = Got B} (refused k) (refused 8) = sym (ap (λ (t : Got A). and_then t D) e) ∙ q in
-            let z : k ≡ 8 = cc in
+            let r : ◌≡◌ {A = Got B} (refused k) (refused InputEnds) = sym (ap (λ (t : Got A). and_then t D) e) ∙ q in
+            let z : k ≡ InputEnds = cc in
             (f bs).done (e ∙ ap refused z);
       }
 
@@ -110,9 +112,9 @@ both_ends {A} {B} F G l f g bs = record { more = r.bits; done = r.ends }
     D : A → List Bool → Got (A × B)
     D a rest = and_then {B = A × B} ((G a).dec rest) (λ b rest'. got (a, b) rest')
 
-    pair : (a : A) (t : Got B) → (t ≡ refused 8 → ⊥) → and_then {B = A × B} t (λ b rest'. got (a, b) rest') ≡ refused 8 → ⊥
-    pair a (got b rest') n e = let p : A × B = (a, b) in got_not p rest' 8 e
-    pair a (refused k) n e = let z : k ≡ 8 = cc in n (ap refused z)
+    pair : (a : A) (t : Got B) → (t ≡ refused InputEnds → ⊥) → and_then {B = A × B} t (λ b rest'. got (a, b) rest') ≡ refused InputEnds → ⊥
+    pair a (got b rest') n e = let p : A × B = (a, b) in got_not p rest' InputEnds e
+    pair a (refused k) n e = let z : k ≡ InputEnds = cc in n (ap refused z)
 
     r : Runs F l f D (λ a rest. (g a rest).more) (λ a rest. pair a ((G a).dec (rest ++ (g a rest).more)) (g a rest).done) bs
     r = runs F l f D (λ a rest. (g a rest).more) (λ a rest. pair a ((G a).dec (rest ++ (g a rest).more)) (g a rest).done) bs
@@ -120,29 +122,29 @@ both_ends {A} {B} F G l f g bs = record { more = r.bits; done = r.ends }
 pub shown_ends : {A B : Type 0} (F : Format A) (to : A → B) (of : B → A) → Ends F → Ends (shown F to of)
 shown_ends {A} {B} F to of f bs = record { more = (f bs).more; done = go (F.dec (bs ++ (f bs).more)) (f bs).done }
   where
-    go : (t : Got A) → (t ≡ refused 8 → ⊥) → and_then t (λ a rest. got (to a) rest) ≡ refused 8 → ⊥
-    go (got a rest) n e = got_not (to a) rest 8 e
-    go (refused k) n e = let z : k ≡ 8 = cc in n (ap refused z)
+    go : (t : Got A) → (t ≡ refused InputEnds → ⊥) → and_then t (λ a rest. got (to a) rest) ≡ refused InputEnds → ⊥
+    go (got a rest) n e = got_not (to a) rest InputEnds e
+    go (refused k) n e = let z : k ≡ InputEnds = cc in n (ap refused z)
 
-pub tested_ends : {A : Type 0} (F : Format A) (ok : A → Bool) (n : ℕ) → (n ≡ 8 → ⊥) → Ends F → Ends (tested F ok n)
+pub tested_ends : {A : Type 0} (F : Format A) (ok : A → Bool) (n : Refusal) → (n ≡ InputEnds → ⊥) → Ends F → Ends (tested F ok n)
 tested_ends {A} F ok n other f bs = record { more = (f bs).more; done = go (F.dec (bs ++ (f bs).more)) (f bs).done }
   where
-    test : (a : A) (rest : List Bool) (t : Bool) → cond t (got a rest) (refused n) ≡ refused 8 → ⊥
-    test a rest true e = got_not a rest 8 e
+    test : (a : A) (rest : List Bool) (t : Bool) → cond t (got a rest) (refused n) ≡ refused InputEnds → ⊥
+    test a rest true e = got_not a rest InputEnds e
     test a rest false e = other cc
 
-    go : (t : Got A) → (t ≡ refused 8 → ⊥) → and_then t (λ a rest. cond (ok a) (got a rest) (refused n)) ≡ refused 8 → ⊥
+    go : (t : Got A) → (t ≡ refused InputEnds → ⊥) → and_then t (λ a rest. cond (ok a) (got a rest) (refused n)) ≡ refused InputEnds → ⊥
     go (got a rest) m e = test a rest (ok a) e
-    go (refused k) m e = let z : k ≡ 8 = cc in m (ap refused z)
+    go (refused k) m e = let z : k ≡ InputEnds = cc in m (ap refused z)
 
 pub each_ends : {R A : Type 0} (F : R → Format A) → ((r : R) → Lawful (F r)) → ((r : R) → Ends (F r)) → (rs : List R) → Ends (each F rs)
 unfolding each_dec
-each_ends F l f [] bs = record { more = []; done = got_not [] (bs ++ []) 8 }
+each_ends F l f [] bs = record { more = []; done = got_not [] (bs ++ []) InputEnds }
 each_ends {R} {A} F l f (r ∷ rs) bs = go (each_ends F l f rs)
   where
-    pair : (a : A) (t : Got (List A)) → (t ≡ refused 8 → ⊥) → and_then t (λ xs rest'. got (a ∷ xs) rest') ≡ refused 8 → ⊥
-    pair a (got xs rest') n e = got_not (a ∷ xs) rest' 8 e
-    pair a (refused k) n e = let z : k ≡ 8 = cc in n (ap refused z)
+    pair : (a : A) (t : Got (List A)) → (t ≡ refused InputEnds → ⊥) → and_then t (λ xs rest'. got (a ∷ xs) rest') ≡ refused InputEnds → ⊥
+    pair a (got xs rest') n e = got_not (a ∷ xs) rest' InputEnds e
+    pair a (refused k) n e = let z : k ≡ InputEnds = cc in n (ap refused z)
 
     go : Ends (each F rs) → Enough (each F (r ∷ rs)) bs
     go g =

@@ -6,6 +6,7 @@ use mathlib.Core.Bool.{Bool}
 use native.Mathlib.Nat.{zero-mul, suc-mul, add_comm}
 use lib.ListN.{length, length-append, replicate}
 use Rattle.bits.proofs.Laws.{length_bits_n}
+use Rattle.answers.specs.declared.Refusal.{Refusal}
 use Rattle.bits.specs.Format.{Format, number, only, both, tested, shown, each, each_Ok, each_enc}
 
 -- the sum of the sizes of a list's elements
@@ -28,7 +29,7 @@ pub both_sized : {A B : Type 0} (F : Format A) (G : A → Format B) (size : A �
     → Sized F size → ((a : A) → Sized (G a) (size' a)) → Sized (both F G) (λ p. size p.0 + size' p.0 p.1)
 both_sized F G size size' f g p o = rw (length-append, f p.0 o.0, g p.0 p.1 o.1)
 
-pub tested_sized : {A : Type 0} (F : Format A) (ok : A → Bool) (n : ℕ) (size : A → ℕ) → Sized F size → Sized (tested F ok n) size
+pub tested_sized : {A : Type 0} (F : Format A) (ok : A → Bool) (n : Refusal) (size : A → ℕ) → Sized F size → Sized (tested F ok n) size
 tested_sized F ok n size f a o = f a o.0
 
 pub shown_sized : {A B : Type 0} (F : Format A) (to : A → B) (of : B → A) (size : A → ℕ) → Sized F size → Sized (shown F to of) (λ b. size (of b))

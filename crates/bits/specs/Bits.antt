@@ -1,11 +1,8 @@
 -- The bits of numbers and of bytes, most significant first; read_u32 and write_u32 of docs/FORMAT.md, Bits.
-use Rattle.std.specs.Prelude.{ℕ, zero, suc, ◌+◌, ◌*◌, ◌/◌, ◌%◌, ◌^◌, ◌≤◌, ◌<◌, List, [], ◌∷◌, ◌++◌, Bool, true, false, cond, length, take, drop, eqb, leb}
+use Rattle.std.specs.Prelude.{ℕ, zero, suc, ◌+◌, ◌*◌, ◌/◌, ◌%◌, ◌^◌, ◌≤◌, ◌<◌, List, [], ◌∷◌, ◌++◌, Bool, true, false, cond, length, take, drop, eqb, leb, Result, Ok, Err}
 use Rattle.bits.specs.declared.BitPos.{BitPos}
-use Rattle.bits.specs.declared.BitRead.{BitRead}
-use Rattle.bits.specs.declared.BitRead.TheVariants.{Number}
-use Rattle.bits.specs.declared.BitMove.{BitMove}
-use Rattle.bits.specs.declared.BitMove.TheVariants.{Done}
-use Rattle.answers.specs.Causes as cause
+use Rattle.answers.specs.declared.Refusal.{Refusal}
+use Rattle.answers.specs.declared.Refusal.TheVariants.{OutputFull, InputEnds, OutOfRange}
 
 -- ---- bits and numbers
 -- the least significant bit of a number
@@ -54,39 +51,18 @@ Inside n p = (bit_at p ≤ n) × (p.bit < 8)
 
 -- ---- the answers, for the bytes s and the bit position at
 -- 12 for more than 32 bits; 8 where fewer than n bits are left or the position is past the end
-unfoldable pub read_u32 : List ℕ → ℕ → ℕ → BitRead
+unfoldable pub read_u32 : List ℕ → ℕ → ℕ → Result (ℕ × BitPos) Refusal
 read_u32 s at n =
     cond (leb n 32)
-    (cond (leb (at + n) (8 * length s)) (Number (number_of (take n (drop at (bits_of s)))) (pos_of (at + n))) (BitRead.Refused cause.input_ends))
-    (BitRead.Refused cause.out_of_range)
+    (cond (leb (at + n) (8 * length s)) (Ok (number_of (take n (drop at (bits_of s))), pos_of (at + n))) (Err InputEnds))
+    (Err OutOfRange)
 
 -- 12 for more than 32 bits; 7 where fewer than n bits are left or the position is past the end
-unfoldable pub write_u32 : List ℕ → ℕ → ℕ → BitMove
+unfoldable pub write_u32 : List ℕ → ℕ → ℕ → Result BitPos Refusal
 write_u32 s at n =
     cond (leb n 32)
-    (cond (leb (at + n) (8 * length s)) (Done (pos_of (at + n))) (BitMove.Refused cause.output_full))
-    (BitMove.Refused cause.out_of_range)
-
--- the number of the refusal, 0 for none; the value; the position. A call that refuses leaves v and p as they were
-abbrev pub read_number : BitRead → ℕ
-read_number (BitRead.Number w q) = 0
-read_number (BitRead.Refused n) = n
-
-abbrev pub read_value : ℕ → BitRead → ℕ
-read_value v (BitRead.Number w q) = w
-read_value v (BitRead.Refused n) = v
-
-abbrev pub read_place : BitPos → BitRead → BitPos
-read_place p (BitRead.Number w q) = q
-read_place p (BitRead.Refused n) = p
-
-abbrev pub move_number : BitMove → ℕ
-move_number (BitMove.Done q) = 0
-move_number (BitMove.Refused n) = n
-
-abbrev pub move_place : BitPos → BitMove → BitPos
-move_place p (BitMove.Done q) = q
-move_place p (BitMove.Refused n) = p
+    (cond (leb (at + n) (8 * length s)) (Ok (pos_of (at + n))) (Err OutputFull))
+    (Err OutOfRange)
 
 -- the bytes with new bits from a position on, every other bit the same
 unfoldable pub bytes_with : List ℕ → ℕ → List Bool → List ℕ

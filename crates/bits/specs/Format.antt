@@ -1,14 +1,14 @@
 -- Formats: how values stand as bits, and what is read of bits.
-use Rattle.std.specs.Prelude.{ℕ, ◌-◌, ◌<◌, ◌^◌, ◌≡◌, List, [], ◌∷◌, ◌++◌, Bool, cond, length, take, drop, leb, T}
+use Rattle.std.specs.Prelude.{ℕ, ◌-◌, ◌<◌, ◌^◌, ◌≡◌, List, [], ◌∷◌, ◌++◌, Bool, cond, length, take, drop, leb, T, Result, Ok, Err}
 use Rattle.bits.specs.Bits.{bits_n, number_of, bit_at, pos_of}
-use Rattle.bits.specs.declared.BitMove.{BitMove}
-use Rattle.bits.specs.declared.BitRead.{BitRead}
-use Rattle.answers.specs.Causes as cause
+use Rattle.bits.specs.declared.BitPos.{BitPos}
+use Rattle.answers.specs.declared.Refusal.{Refusal}
+use Rattle.answers.specs.declared.Refusal.TheVariants.{InputEnds}
 
--- what reading finds: a value and the bits after it, or the number of a refusal
+-- what reading finds: a value and the bits after it, or why it is refused
 pub data Got (A : Type 0) : Type 0 where
   got : A → List Bool → Got A
-  refused : ℕ → Got A
+  refused : Refusal → Got A
 
 abbrev pub and_then : {A B : Type 0} → Got A → (A → List Bool → Got B) → Got B
 and_then (got a rest) f = f a rest
@@ -26,13 +26,13 @@ number n =
     record {
       Ok = λ v. v < 2 ^ n;
       enc = λ v. bits_n n v;
-      dec = λ bs. cond (leb n (length bs)) (got (number_of (take n bs)) (drop n bs)) (refused cause.input_ends);
+      dec = λ bs. cond (leb n (length bs)) (got (number_of (take n bs)) (drop n bs)) (refused InputEnds);
     }
 
 -- what an answer of read_u32 shows of the bits bs: the number and the bits behind it, or the refusal
-abbrev pub number_in : List Bool → BitRead → Got ℕ
-number_in bs (BitRead.Number v p) = got v (drop (bit_at p) bs)
-number_in bs (BitRead.Refused k) = refused k
+abbrev pub number_in : List Bool → Result (ℕ × BitPos) Refusal → Got ℕ
+number_in bs (Ok r) = got r.0 (drop (bit_at r.1) bs)
+number_in bs (Err k) = refused k
 
 -- nothing is written, and one value shown
 abbrev pub only : {A : Type 0} → A → Format A
@@ -47,13 +47,13 @@ both F G =
       dec = λ bs. and_then (F.dec bs) (λ a rest. and_then ((G a).dec rest) (λ b rest'. got (a, b) rest'));
     }
 
--- values that pass a test; n where one does not
-abbrev pub tested : {A : Type 0} → Format A → (A → Bool) → ℕ → Format A
-tested F ok n =
+-- values that pass a test; the refusal k where one does not
+abbrev pub tested : {A : Type 0} → Format A → (A → Bool) → Refusal → Format A
+tested F ok k =
     record {
       Ok = λ a. F.Ok a × T (ok a);
       enc = F.enc;
-      dec = λ bs. and_then (F.dec bs) (λ a rest. cond (ok a) (got a rest) (refused n));
+      dec = λ bs. and_then (F.dec bs) (λ a rest. cond (ok a) (got a rest) (refused k));
     }
 
 -- the same bits, shown as something else
@@ -92,6 +92,6 @@ shows s (r ∷ rs) [] = []
 shows s (r ∷ rs) (x ∷ xs) = s r x ∷ shows s rs xs
 
 -- the answer of a call that moves a position over what is read of n bits: the position behind it, or the refusal
-abbrev pub move_answer : {A : Type 0} → ℕ → Got A → BitMove
-move_answer n (got a rest) = BitMove.Done (pos_of (n - length rest))
-move_answer n (refused k) = BitMove.Refused k
+abbrev pub move_answer : {A : Type 0} → ℕ → Got A → Result BitPos Refusal
+move_answer n (got a rest) = Ok (pos_of (n - length rest))
+move_answer n (refused k) = Err k

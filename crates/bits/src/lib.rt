@@ -5,25 +5,13 @@ ghost use Rattle.std.specs.Prelude.{◌≡◌, ◌+◌, ◌*◌, ◌<◌, ◌≤
 ghost use Rattle.bits.specs.Bits.{bits_of, bits_n, number_of, splice, bit_at, pos_of, read_u32, write_u32, written};
 ghost use Rattle.bits.specs.Work.{byte_with};
 
+use answers::Refusal;
+
 // The bit 8 * byte + bit.
 #[derive(Clone, Copy)]
 pub struct BitPos {
     pub byte: usize,
     pub bit: u32,
-}
-
-// What read_u32 answers: the number and the advanced position, or the number of the refusal.
-#[derive(Clone, Copy)]
-pub enum BitRead {
-    Number(u32, BitPos),
-    Refused(u8),
-}
-
-// What write_u32 and readers into lent buffers answer: the advanced position, or the number of the refusal.
-#[derive(Clone, Copy)]
-pub enum BitMove {
-    Done(BitPos),
-    Refused(u8),
 }
 
 // 2^k: products and modulo in place of masks, since the proofs are about numbers.
@@ -209,36 +197,36 @@ impl BitPos {
     }
 
     // The next n bits as an unsigned number. Refuses with 12, then 8.
-    pub fn read_u32(self, src: &[u8], n: u32) -> BitRead
+    pub fn read_u32(self, src: &[u8], n: u32) -> Result<(u32, BitPos), Refusal>
         ensures { result ≡ read_u32 src.now (bit_at self) n }
     {
         if 32 < n {
-            return BitRead::Refused(answers::OUT_OF_RANGE);
+            return Err(Refusal::OutOfRange);
         }
         if self.has_bits(src.len(), 1, n as usize) {
-            BitRead::Number(self.peek(src, n), self.advance(1, n as usize))
+            Ok((self.peek(src, n), self.advance(1, n as usize)))
         } else {
-            BitRead::Refused(answers::INPUT_ENDS)
+            Err(Refusal::InputEnds)
         }
     }
 
     // Writes the low n bits of v here. Refuses with 12, then 7.
-    pub fn write_u32(self, out: &mut [u8], v: u32, n: u32) -> BitMove
+    pub fn write_u32(self, out: &mut [u8], v: u32, n: u32) -> Result<BitPos, Refusal>
         ensures value { result ≡ write_u32 out.old (bit_at self) n }
         ensures out_after { out.new ≡ written out.old (bit_at self) v n }
     {
         let byte = self.byte;
         let bit = self.bit;
         if 32 < n {
-            return BitMove::Refused(answers::OUT_OF_RANGE);
+            return Err(Refusal::OutOfRange);
         }
         if self.has_bits(out.len(), 1, n as usize) {
             let q = byte + (bit / 8) as usize;
             let r = bit % 8;
             put_bits(out, q, r, v, n);
-            BitMove::Done(self.advance(1, n as usize))
+            Ok(self.advance(1, n as usize))
         } else {
-            BitMove::Refused(answers::OUTPUT_FULL)
+            Err(Refusal::OutputFull)
         }
     }
 }

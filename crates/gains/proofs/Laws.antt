@@ -14,14 +14,11 @@ use lib.IntN.{ℤ, pos, negsuc}
 use borrow.Author.Tests.{eq-eqb, ne_eqb, le-leb, lt-leb, leb-true, leb-false}
 use Rattle.bits.specs.Bits.{number_of, bits_of, pos_of, read_u32}
 use Rattle.bits.specs.declared.BitPos.{BitPos}
-use Rattle.bits.specs.declared.BitRead.{BitRead}
-use Rattle.bits.specs.declared.BitRead.TheVariants.{Number}
 use Rattle.bits.proofs.Laws.{number_take_lt, read_good}
 use Rattle.gains.specs.Gains.{endbap, marked, gaqbin_of, marked_bins, fill_gaqbin, gaqbin_after, gain_value, other_gains, member, allowed_gain, word_bits, word_codes, words_read, words_end, codes_from, gain_codes, read_gaq_gains, gains_after}
 use Rattle.gains.specs.Work.{placed}
-use Rattle.gains.specs.declared.GainsResult.{GainsResult}
-use Rattle.gains.specs.declared.GainsResult.TheVariants.{Codes}
-use Rattle.answers.specs.declared.SizeResult.TheVariants.{Value}
+use Rattle.std.specs.Prelude.{Ok, Err}
+use Rattle.answers.specs.declared.Refusal.TheVariants.{InputEnds, OutOfRange}
 
 -- ---- a list cut at a number, or at its own length where that is smaller
 module _ {A : Type 0} where
@@ -85,7 +82,7 @@ module _ (mode : ℕ) (row : List ℕ) (l out : List ℤ) (n active : ℕ) (f : 
         )
 
   -- after the loop
-  pub marked_all : mode ≤ 3 → n ≡ min (length row) (length l) → (Value active ≡ fill_gaqbin mode row (length l)) × (out ≡ gaqbin_after mode row l)
+  pub marked_all : mode ≤ 3 → n ≡ min (length row) (length l) → (Ok active ≡ fill_gaqbin mode row (length l)) × (out ≡ gaqbin_after mode row l)
   unfolding fill_gaqbin gaqbin_after
   marked_all h e =
       let b : out ≡ map (gaqbin_of mode) (take (length l) row) ++ drop (length row) l =
@@ -207,7 +204,7 @@ word_bits_le mode = go (eqb mode 3)
     go false = omega arith
 
 -- the bits of the word behind i of n words are there
-word_there : (w at i n total : ℕ) → i < n → at + w * n ≤ total → at + w * i + w ≤ total
+pub word_there : (w at i n total : ℕ) → i < n → at + w * n ≤ total → at + w * i + w ≤ total
 word_there w at i n total h k = let m : w * suc i ≤ w * n = mul-le-mul_left w h in omega arith
 
 -- a word is a small number
@@ -216,26 +213,13 @@ word_small mode bs =
     let h : number_of (take (word_bits mode) bs) < 2 ^ 5 = lt_of_lt_of_le (number_take_lt (word_bits mode) bs) (pow_mono (word_bits_le mode)) in
     omega arith
 
--- what reading the word behind i words answers
-pub word_read : (s : List ℕ) (at₀ mode n i at w : ℕ) (r : BitRead) → at₀ + word_bits mode * n ≤ 8 * length s → i < n → at ≡ at₀ + word_bits mode * i → w ≡ word_bits mode
-    → r ≡ read_u32 s at w → r ≡ Number (number_of (take (word_bits mode) (drop (word_bits mode * i) (drop at₀ (bits_of s))))) (pos_of (at₀ + word_bits mode * (i + 1)))
-word_read s at₀ mode n i at w r room h e f g =
-    let few : word_bits mode ≤ 5 = word_bits_le mode in
-    let k : at₀ + word_bits mode * i + word_bits mode ≤ 8 * length s = word_there (word_bits mode) at₀ i n (8 * length s) h room in
-    let b : at₀ + word_bits mode * (i + 1) ≡ at₀ + word_bits mode * i + word_bits mode = omega arith in
-    rw (g, e, f, b, drop-drop) (read_good s (at₀ + word_bits mode * i) (word_bits mode) (omega arith) k)
-
--- two answers of one reading are the same
-pub same_number : (r : BitRead) (v v' : ℕ) (p p' : BitPos) → r ≡ Number v p → r ≡ Number v' p' → (v ≡ v') × (p ≡ p')
-same_number r v v' p p' e f = (cc, cc)
-
 -- a turn of the loop: the codes of the word behind i words were put
 pub filled_word : {l out : List ℕ} {next : ℕ} (mode i w : ℕ) (bs : List Bool) → w ≡ number_of (take (word_bits mode) (drop (word_bits mode * i) bs))
     → Filled l 0 (codes_from mode i bs ++ word_codes mode w) out next → Filled l 0 (codes_from mode (i + 1) bs) out next
 filled_word mode i w bs e f = rw (add-one, codes_more mode i bs, ← e) f
 
 -- ---- read_gaq_gains by its cases
-pub gains_mode : (s out : List ℕ) (at mode n : ℕ) → 3 < mode → (GainsResult.Refused 12 ≡ read_gaq_gains s at mode n (length out)) × (out ≡ gains_after s at mode n out)
+pub gains_mode : (s out : List ℕ) (at mode n : ℕ) → 3 < mode → (Err OutOfRange ≡ read_gaq_gains s at mode n (length out)) × (out ≡ gains_after s at mode n out)
 unfolding read_gaq_gains gains_after
 gains_mode s out at mode n h = (simp (lt-leb mode 3 h), simp (lt-leb mode 3 h))
 
@@ -245,7 +229,7 @@ module _ (s out : List ℕ) (at mode n w m : ℕ) (few : mode ≤ 3) (ew : w ≡
   unfolding words_end
   whole = rw (ew, em)
 
-  pub gains_short : 8 * length s < at + w * m → (GainsResult.Refused 8 ≡ read_gaq_gains s at mode n (length out)) × (out ≡ gains_after s at mode n out)
+  pub gains_short : 8 * length s < at + w * m → (Err InputEnds ≡ read_gaq_gains s at mode n (length out)) × (out ≡ gains_after s at mode n out)
   unfolding read_gaq_gains gains_after
   gains_short h =
       let e : leb (words_end at mode n (length out)) (8 * length s) ≡ false = rw (← whole) (lt-leb (at + w * m) (8 * length s) h) in
@@ -253,7 +237,7 @@ module _ (s out : List ℕ) (at mode n w m : ℕ) (few : mode ≤ 3) (ew : w ≡
 
   pub gains_good : (k : ℕ) (out' : List ℕ) (p : BitPos) → at + w * m ≤ 8 * length s → k ≡ min (length out) (length (codes_from mode m (drop at (bits_of s))))
       → out' ≡ placed out 0 (codes_from mode m (drop at (bits_of s))) → p ≡ pos_of (at + w * m)
-      → (Codes k p ≡ read_gaq_gains s at mode n (length out)) × (out' ≡ gains_after s at mode n out)
+      → (Ok (k, p) ≡ read_gaq_gains s at mode n (length out)) × (out' ≡ gains_after s at mode n out)
   unfolding read_gaq_gains gains_after gain_codes
   gains_good k out' p h ek eo ep =
       let codes = codes_from mode m (drop at (bits_of s)) in

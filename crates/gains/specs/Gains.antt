@@ -1,15 +1,12 @@
 -- Gain-adaptive quantisation: which bins have a gain, and how gains stand in the field.
 -- docs/FORMAT.md, Gains and 'Small ports'; ATSC A/52 Annex E, 3.4.2 and 3.4.4.2, Tables E3.3 and E3.4.
-use Rattle.std.specs.Prelude.{ℕ, zero, suc, ◌+◌, ◌*◌, ◌/◌, ◌%◌, min, List, [], ◌∷◌, ◌++◌, map, Bool, false, cond, not, ◌&&◌, ◌||◌, eqb, leb, ltb, ℤ, pos, negsuc, length, take, drop}
+use Rattle.std.specs.Prelude.{ℕ, zero, suc, ◌+◌, ◌*◌, ◌/◌, ◌%◌, min, List, [], ◌∷◌, ◌++◌, map, Bool, false, cond, not, ◌&&◌, ◌||◌, eqb, leb, ltb, ℤ, pos, negsuc, length, take, drop, Result, Ok, Err}
 use Rattle.bits.specs.Bits.{number_of, bits_of, pos_of}
 use Rattle.bits.specs.declared.BitPos.{BitPos}
-use Rattle.answers.specs.declared.ByteResult.{ByteResult}
-use Rattle.answers.specs.declared.SizeResult.{SizeResult}
+use Rattle.answers.specs.declared.Refusal.{Refusal}
+use Rattle.answers.specs.declared.Refusal.TheVariants.{InputEnds, OutOfRange}
 use Rattle.gains.specs.declared.Coding.{Coding}
-use Rattle.gains.specs.declared.GainsResult.{GainsResult}
 use Rattle.gains.specs.declared.GroupCodes.{GroupCodes}
-use Rattle.gains.specs.declared.GainsResult.TheVariants.{Codes}
-use Rattle.answers.specs.Causes as cause
 
 -- ---- which bins have a gain (3.4.2)
 -- gains are for hebap 8 up to endbap, not included; mode 0 has the endbap of mode 1, though no gain is read there
@@ -100,18 +97,18 @@ codes_from mode zero bs = []
 codes_from mode (suc n) bs = word_codes mode (number_of (take (word_bits mode) bs)) ++ codes_from mode n (drop (word_bits mode) bs)
 
 -- ---- what the functions answer; a mode above 3 gives 12
-unfoldable pub endbap_for_gaqmod : ℕ → ByteResult
-endbap_for_gaqmod mode = cond (leb mode 3) (ByteResult.Value (endbap mode)) (ByteResult.Refused cause.out_of_range)
+unfoldable pub endbap_for_gaqmod : ℕ → Result ℕ Refusal
+endbap_for_gaqmod mode = cond (leb mode 3) (Ok (endbap mode)) (Err OutOfRange)
 
-unfoldable pub gaq_gain_value : ℕ → ℕ → ByteResult
-gaq_gain_value code mode = cond (leb mode 3) (ByteResult.Value (gain_value code mode)) (ByteResult.Refused cause.out_of_range)
+unfoldable pub gaq_gain_value : ℕ → ℕ → Result ℕ Refusal
+gaq_gain_value code mode = cond (leb mode 3) (Ok (gain_value code mode)) (Err OutOfRange)
 
-unfoldable pub gaq_sections : ℕ → ℕ → SizeResult
-gaq_sections mode n = cond (leb mode 3) (SizeResult.Value (sections mode n)) (SizeResult.Refused cause.out_of_range)
+unfoldable pub gaq_sections : ℕ → ℕ → Result ℕ Refusal
+gaq_sections mode n = cond (leb mode 3) (Ok (sections mode n)) (Err OutOfRange)
 
 -- as many bins as the row has, and no more than there are places
-unfoldable pub fill_gaqbin : ℕ → List ℕ → ℕ → SizeResult
-fill_gaqbin mode row places = cond (leb mode 3) (SizeResult.Value (marked_bins mode (take places row))) (SizeResult.Refused cause.out_of_range)
+unfoldable pub fill_gaqbin : ℕ → List ℕ → ℕ → Result ℕ Refusal
+fill_gaqbin mode row places = cond (leb mode 3) (Ok (marked_bins mode (take places row))) (Err OutOfRange)
 
 unfoldable pub gaqbin_after : ℕ → List ℕ → List ℤ → List ℤ
 gaqbin_after mode row out = cond (leb mode 3) (map (gaqbin_of mode) (take (length out) row) ++ drop (length row) out) out
@@ -130,27 +127,15 @@ unfoldable pub gain_codes : List ℕ → ℕ → ℕ → ℕ → ℕ → List �
 gain_codes s at mode n places = take places (codes_from mode (words_read mode n places) (drop at (bits_of s)))
 
 -- 12 for a mode above 3; 8 where the input has not the bits of its words, or the position is past the end
-unfoldable pub read_gaq_gains : List ℕ → ℕ → ℕ → ℕ → ℕ → GainsResult
+unfoldable pub read_gaq_gains : List ℕ → ℕ → ℕ → ℕ → ℕ → Result (ℕ × BitPos) Refusal
 read_gaq_gains s at mode n places =
     cond (leb mode 3)
     (cond (leb (words_end at mode n places) (8 * length s))
-    (Codes (length (gain_codes s at mode n places)) (pos_of (words_end at mode n places)))
-    (GainsResult.Refused cause.input_ends))
-    (GainsResult.Refused cause.out_of_range)
+    (Ok (length (gain_codes s at mode n places), pos_of (words_end at mode n places)))
+    (Err InputEnds))
+    (Err OutOfRange)
 
--- its number, how many codes, and the position; what stood there before where it refuses
-abbrev pub gains_number : GainsResult → ℕ
-gains_number (GainsResult.Codes k q) = 0
-gains_number (GainsResult.Refused n) = n
-
-abbrev pub gains_value : ℕ → GainsResult → ℕ
-gains_value v (GainsResult.Codes k q) = k
-gains_value v (GainsResult.Refused n) = v
-
-abbrev pub gains_place : BitPos → GainsResult → BitPos
-gains_place p (GainsResult.Codes k q) = q
-gains_place p (GainsResult.Refused n) = p
-
+-- the output afterwards; as it was where it refuses
 unfoldable pub gains_after : List ℕ → ℕ → ℕ → ℕ → List ℕ → List ℕ
 gains_after s at mode n out =
     cond (leb mode 3)

@@ -6,18 +6,11 @@ ghost use Rattle.bits.specs.Bits.{bits_of, bit_at};
 ghost use Rattle.gains.specs.Gains.{active, coding_of, allowed_gain, gain_word_bits, endbap_for_gaqmod, gain_value, gaq_gain_value, gaq_sections, fill_gaqbin, gaqbin_after, endbap, gaqbin_of, word_bits, first_code, group_codes, group_of, word_codes, words_read, codes_from, read_gaq_gains, gains_after};
 ghost use Rattle.gains.specs.Work.{placed};
 
-use answers::{ByteResult, SizeResult};
-use bits::{BitPos, BitRead};
+use answers::Refusal;
+use bits::BitPos;
 
 // From this mode on hebap 12 to 16 are active too.
 const WIDE_FROM: u8 = 2;
-
-// What read_gaq_gains answers: how many codes it put out and the advanced position, or the number of the refusal.
-#[derive(Clone, Copy)]
-pub enum GainsResult {
-    Codes(usize, BitPos),
-    Refused(u8),
-}
 
 // How a bin is coded: not at all, by an index of its book, by six codes at Gk 1, or by six codes at a gain of its own.
 #[derive(Clone, Copy)]
@@ -111,19 +104,13 @@ fn end_of(gaqmod: u8) -> u8
 
 // Bins of hebap 8 up to this one, not included, are marked (fill_gaqbin), also in mode 0. Refuses a mode above 3 with
 // 12.
-pub fn endbap_for_gaqmod(gaqmod: u8) -> ByteResult
+pub fn endbap_for_gaqmod(gaqmod: u8) -> Result<u8, Refusal>
     ensures { result ≡ endbap_for_gaqmod gaqmod }
 {
     if 3 < gaqmod {
-        return ByteResult::Refused(answers::OUT_OF_RANGE);
+        return Err(Refusal::OutOfRange);
     }
-    ByteResult::Value(end_of(gaqmod))
-}
-
-fn least(a: usize, b: usize) -> usize
-    ensures { result ≡ min a b }
-{
-    if a < b { a } else { b }
+    Ok(end_of(gaqmod))
 }
 
 fn mark(gaqmod: u8, h: u8) -> i8
@@ -137,43 +124,33 @@ fn mark(gaqmod: u8, h: u8) -> i8
 
 // Marks each bin of the row: 1 for hebap 8 to endbap - 1, also in mode 0, where no gain is read; -1 from endbap on;
 // else 0. Answers how many are 1. Refuses a mode above 3 with 12.
-pub fn fill_gaqbin(hebap: &[u8], gaqmod: u8, gaqbin: &mut [i8]) -> SizeResult
+pub fn fill_gaqbin(hebap: &[u8], gaqmod: u8, gaqbin: &mut [i8]) -> Result<usize, Refusal>
     ensures value { result ≡ fill_gaqbin gaqmod hebap.now (length gaqbin.old) }
     ensures gaqbin_after { gaqbin.new ≡ gaqbin_after gaqmod hebap.now gaqbin.old }
 {
     if 3 < gaqmod {
-        return SizeResult::Refused(answers::OUT_OF_RANGE);
+        return Err(Refusal::OutOfRange);
     }
-    let n = least(hebap.len(), gaqbin.len());
     let mut active: usize = 0;
-    let mut i: usize = 0;
-    while i < n {
+    for i in 0..hebap.len().min(gaqbin.len()) {
         let m = mark(gaqmod, hebap[i]);
         gaqbin[i] = m;
         if m == 1 {
             active += 1;
         }
-        i += 1;
     }
-    SizeResult::Value(active)
+    Ok(active)
 }
 
 // The gain words of so many active bins. Refuses a mode above 3 with 12.
-pub fn gaq_sections(gaqmod: u8, active_gaqbins: usize) -> SizeResult
+pub fn gaq_sections(gaqmod: u8, active_gaqbins: usize) -> Result<usize, Refusal>
     ensures { result ≡ gaq_sections gaqmod active_gaqbins }
 {
     match gaqmod {
-        0 => SizeResult::Value(0),
-        1 | 2 => SizeResult::Value(active_gaqbins),
-        3 => {
-            let whole = active_gaqbins / 3;
-            if active_gaqbins % 3 == 0 {
-                SizeResult::Value(whole)
-            } else {
-                SizeResult::Value(whole + 1)
-            }
-        }
-        _ => SizeResult::Refused(answers::OUT_OF_RANGE),
+        0 => Ok(0),
+        1 | 2 => Ok(active_gaqbins),
+        3 => Ok(active_gaqbins.div_ceil(3)),
+        _ => Err(Refusal::OutOfRange),
     }
 }
 
@@ -193,13 +170,13 @@ pub fn gain_value(code: u8, gaqmod: u8) -> u8
 }
 
 // The same. Refuses a mode above 3 with 12.
-pub fn gaq_gain_value(code: u8, gaqmod: u8) -> ByteResult
+pub fn gaq_gain_value(code: u8, gaqmod: u8) -> Result<u8, Refusal>
     ensures { result ≡ gaq_gain_value code gaqmod }
 {
     if 3 < gaqmod {
-        return ByteResult::Refused(answers::OUT_OF_RANGE);
+        return Err(Refusal::OutOfRange);
     }
-    ByteResult::Value(gain_value(code, gaqmod))
+    Ok(gain_value(code, gaqmod))
 }
 
 fn word_bits(gaqmod: u8) -> u32
@@ -217,7 +194,7 @@ fn words_read(gaqmod: u8, nsections: usize, places: usize) -> usize
     if gaqmod == 3 {
         return nsections;
     }
-    least(nsections, places)
+    nsections.min(places)
 }
 
 // The code goes to the place k, if there is one; answers the next place.
@@ -292,19 +269,9 @@ fn put_words(src: &[u8], pos: BitPos, gaqmod: u8, n: usize, out: &mut [u8]) -> u
     let w = word_bits(gaqmod);
     let mut p = pos;
     let mut k: usize = 0;
-    let mut i: usize = 0;
-    while i < n {
-        let r = p.read_u32(src, w);
-        match r {
-            BitRead::Refused(_) => {
-                return k;
-            }
-            BitRead::Number(word, next) => {
-                k = put_word(&mut *out, k, gaqmod, word);
-                p = next;
-                i += 1;
-            }
-        }
+    for _ in 0..n {
+        k = put_word(&mut *out, k, gaqmod, p.peek(src, w));
+        p = p.advance(w, 1);
     }
     k
 }
@@ -317,19 +284,19 @@ pub fn read_gaq_gains(
     gaqmod: u8,
     nsections: usize,
     out: &mut [u8],
-) -> GainsResult
+) -> Result<(usize, BitPos), Refusal>
     ensures value { result ≡ read_gaq_gains src.now (bit_at pos) gaqmod nsections (length out.old) }
     ensures out_after { out.new ≡ gains_after src.now (bit_at pos) gaqmod nsections out.old }
 {
     if 3 < gaqmod {
-        return GainsResult::Refused(answers::OUT_OF_RANGE);
+        return Err(Refusal::OutOfRange);
     }
     let n = words_read(gaqmod, nsections, out.len());
     let w = word_bits(gaqmod);
     if pos.has_bits(src.len(), w, n) {
         let k = put_words(src, pos, gaqmod, n, &mut *out);
-        GainsResult::Codes(k, pos.advance(w, n))
+        Ok((k, pos.advance(w, n)))
     } else {
-        GainsResult::Refused(answers::INPUT_ENDS)
+        Err(Refusal::InputEnds)
     }
 }

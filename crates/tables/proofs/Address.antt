@@ -13,7 +13,8 @@ use mir.Val.{SFits, Fits, to_z, of_z}
 use mir.ValLaws.{to_z-of_z}
 use Rattle.tables.specs.Numbers.{hebaptab}
 use Rattle.tables.specs.Tables.{address, hebap_from_address}
-use Rattle.answers.specs.declared.ByteResult.TheVariants.{Value, Refused}
+use Rattle.std.specs.Prelude.{Ok, Err}
+use Rattle.answers.specs.declared.Refusal.TheVariants.{OutOfRange}
 
 -- ---- how large a sum and a difference are
 
@@ -72,11 +73,11 @@ read p m = held w32 (apart p m)
 pub psd_fits : (p : ℤ) → SFits w16 p → SFits w32 (held w16 p)
 psd_fits p f = rw (to_z-of_z w16 p f) (record { sfits = let u = f.sfits in omega arith })
 
-pub too_low : (p m : ℤ) → SFits w32 m → lt_z (held w32 m) (negsuc 65535) ≡ true → Refused 12 ≡ hebap_from_address p m
+pub too_low : (p m : ℤ) → SFits w32 m → lt_z (held w32 m) (negsuc 65535) ≡ true → Err OutOfRange ≡ hebap_from_address p m
 unfolding hebap_from_address
 too_low p m f t = let u : lt_z m (negsuc 65535) ≡ true = rw (to_z-of_z w32 m f) at t in rw u
 
-pub too_high : (p m : ℤ) → SFits w32 m → lt_z (held w32 m) (negsuc 65535) ≡ false → lt_z (pos 65536) (held w32 m) ≡ true → Refused 12 ≡ hebap_from_address p m
+pub too_high : (p m : ℤ) → SFits w32 m → lt_z (held w32 m) (negsuc 65535) ≡ false → lt_z (pos 65536) (held w32 m) ≡ true → Err OutOfRange ≡ hebap_from_address p m
 unfolding hebap_from_address
 too_high p m f l h =
     let low : lt_z m (negsuc 65535) ≡ false = rw (to_z-of_z w32 m f) at l in
@@ -87,9 +88,9 @@ too_high p m f l h =
 pub record Known (p m : ℤ) : Type 0 where
   pub fits : SFits w32 (apart p m)
   pub cast : lt_z (read p m) (pos 0) ≡ false → T (non_neg (read p m)) × Fits w64 (nat_abs (read p m))
-  pub below : (h : ℕ) → h ≡ get_or hebaptab 0 0 → lt_z (read p m) (pos 0) ≡ true → Value h ≡ hebap_from_address p m
-  pub inside : (h : ℕ) → h ≡ get_or hebaptab (nat_abs (read p m) / 32) 0 → lt_z (read p m) (pos 0) ≡ false → nat_abs (read p m) / 32 ≤ 63 → Value h ≡ hebap_from_address p m
-  pub beyond : (h : ℕ) → h ≡ get_or hebaptab 63 0 → lt_z (read p m) (pos 0) ≡ false → 63 < nat_abs (read p m) / 32 → Value h ≡ hebap_from_address p m
+  pub below : (h : ℕ) → h ≡ get_or hebaptab 0 0 → lt_z (read p m) (pos 0) ≡ true → Ok h ≡ hebap_from_address p m
+  pub inside : (h : ℕ) → h ≡ get_or hebaptab (nat_abs (read p m) / 32) 0 → lt_z (read p m) (pos 0) ≡ false → nat_abs (read p m) / 32 ≤ 63 → Ok h ≡ hebap_from_address p m
+  pub beyond : (h : ℕ) → h ≡ get_or hebaptab 63 0 → lt_z (read p m) (pos 0) ≡ false → 63 < nat_abs (read p m) / 32 → Ok h ≡ hebap_from_address p m
 
 pub known : (p m : ℤ) → SFits w16 p → SFits w32 m → lt_z (held w32 m) (negsuc 65535) ≡ false → lt_z (pos 65536) (held w32 m) ≡ false → Known p m
 unfolding hebap_from_address
@@ -100,7 +101,7 @@ known p m fp fm l h =
     let u = fp.sfits in
     let small : SFits w32 (p -ℤ m) = record { sfits = omega (arith, add_mag p (neg_ℤ m), neg_mag m, mask_mag m low high) } in
     let back : read p m ≡ p -ℤ m = rw same (to_z-of_z w32 (p -ℤ m) small) in
-    let answer : (h a : ℕ) → h ≡ get_or hebaptab a 0 → a ≡ address (read p m) → Value h ≡ hebap_from_address p m = λ h a e f. rw (low, high, e, f, back) in
+    let answer : (h a : ℕ) → h ≡ get_or hebaptab a 0 → a ≡ address (read p m) → Ok h ≡ hebap_from_address p m = λ h a e f. rw (low, high, e, f, back) in
     record {
       fits = rw same small;
       cast = cast_of (read p m) (rw back small);

@@ -1,10 +1,9 @@
 -- What the tables of ATSC A/52 Annex E, section 3.4, say of a hebap. docs/FORMAT.md, Tables and 'Small ports'.
-use Rattle.std.specs.Prelude.{ℕ, ◌+◌, ◌-◌, ◌*◌, ◌/◌, min, List, [], cond, ◌||◌, eqb, ℤ, pos, negsuc, neg_ℤ, ◌-ℤ◌, get_or}
+use Rattle.std.specs.Prelude.{ℕ, ◌+◌, ◌-◌, ◌*◌, ◌/◌, min, List, [], cond, ◌||◌, eqb, ℤ, pos, negsuc, neg_ℤ, ◌-ℤ◌, get_or, Result, Ok, Err}
 use Rattle.std.specs.Int.Signed.{lt_z}
 use Rattle.tables.specs.Numbers.{hebaptab, mant_bits_table, vq_bits_table, gaq_remap_table, vq_hebap1, vq_hebap2, vq_hebap3, vq_hebap4, vq_hebap5, vq_hebap6, vq_hebap7}
-use Rattle.answers.specs.declared.ByteResult.{ByteResult}
-use Rattle.answers.specs.declared.ByteResult.TheVariants.{Value, Refused}
-use Rattle.answers.specs.Causes as cause
+use Rattle.answers.specs.declared.Refusal.{Refusal}
+use Rattle.answers.specs.declared.Refusal.TheVariants.{OutOfRange}
 
 -- m, the bits of a scalar mantissa (HEBAP_MANT_BITS, Table E3.2); 0 where hebap is not 8 to 19
 unfoldable pub mant_bits : ℕ → ℕ
@@ -36,7 +35,7 @@ address (pos d) = min 63 (d / 32)
 address (negsuc d) = 0
 
 -- hebaptab at the address; 12 where the mask is outside -65536 to 65536
-unfoldable pub hebap_from_address : ℤ → ℤ → ByteResult
+unfoldable pub hebap_from_address : ℤ → ℤ → Result ℕ Refusal
 hebap_from_address psd mask =
-    cond (lt_z mask (neg_ℤ (pos 65536)) || lt_z (pos 65536) mask) (Refused cause.out_of_range)
-    (Value (get_or hebaptab (address (psd -ℤ mask)) 0))
+    cond (lt_z mask (neg_ℤ (pos 65536)) || lt_z (pos 65536) mask) (Err OutOfRange)
+    (Ok (get_or hebaptab (address (psd -ℤ mask)) 0))

@@ -5,7 +5,7 @@ ghost use Rattle.std.specs.Prelude.{◌≡◌, ◌-◌, ◌<◌, get_or};
 ghost use Rattle.tables.specs.Numbers.{hebaptab};
 ghost use Rattle.tables.specs.Tables.{mant_bits, vq_bits, gaq_remap_at, hebap_from_address, book};
 
-use answers::ByteResult;
+use answers::Refusal;
 
 mod consts;
 
@@ -55,24 +55,24 @@ fn hebap_at(address: usize) -> u8
 }
 
 // The hebap of a power density and a mask. Refuses a mask outside -65536 to 65536 with 12.
-pub fn hebap_from_address(psd: i16, mask_after_floor: i32) -> ByteResult
+pub fn hebap_from_address(psd: i16, mask_after_floor: i32) -> Result<u8, Refusal>
     ensures { result ≡ hebap_from_address psd mask_after_floor }
 {
     if mask_after_floor < LEAST_MASK {
-        return ByteResult::Refused(answers::OUT_OF_RANGE);
+        return Err(Refusal::OutOfRange);
     }
     if 65536 < mask_after_floor {
-        return ByteResult::Refused(answers::OUT_OF_RANGE);
+        return Err(Refusal::OutOfRange);
     }
     let d = (psd as i32) - mask_after_floor;
     if d < 0 {
-        return ByteResult::Value(hebap_at(0));
+        return Ok(hebap_at(0));
     }
     let address = (d as usize) / 32;
     if 63 < address {
-        return ByteResult::Value(hebap_at(63));
+        return Ok(hebap_at(63));
     }
-    ByteResult::Value(hebap_at(address))
+    Ok(hebap_at(address))
 }
 
 // The books, each by value: build one once where it is used many times, and lend it as a slice.

@@ -16,16 +16,15 @@ unfolding fill_gaqbin gaqbin_after
 returns-then-gaqmod-gt3 c = record { value = simp (lt-leb _ _ c.if-gaqmod-gt3.true); gaqbin_after = simp (lt-leb _ _ c.if-gaqmod-gt3.true) }
 
 pub loop-i-init : goal.loop-i-init
-loop-i-init c = let a = c.args in (omega arith, refl, marked_start a.gaqmod a.hebap.now a.gaqbin.now)
+loop-i-init c = let a = c.args in marked_start a.gaqmod a.hebap.now a.gaqbin.now
 
 pub loop-i-preserved : goal.loop-i-preserved
 loop-i-preserved c = let a = c.args in
     let m = to_z w8 (of_z w8 c.mark-m.result) in
     let z : m ≡ c.mark-m.result = to_z-of_z w8 c.mark-m.result (record { sfits = c.mark-m.type_inv }) in
     let e : m ≡ gaqbin_of a.gaqmod (get_or a.hebap.now c.loop-i.i 0) = z ∙ c.mark-m.ensures in
-    let g : length c.loop-i.gaqbin ≡ length a.gaqbin.now = c.loop-i.invariant.1 in
-    let next = marked_next a.gaqmod a.hebap.now a.gaqbin.now c.loop-i.gaqbin c.loop-i.i c.loop-i.active c.loop-i.invariant.2 m (omega arith) (omega arith) e c.if-m-eq1.active in
-    (omega arith, simp length-set g, elim c.if-m-eq1.branch [ then-m-eq1 w ↦ next.0 w.active-is (ap (to_z w8) w.if-m-eq1.true) | else-m-eq1 w ↦ next.1 w.active-is (λ q. w.if-m-eq1.false (ap (of_z w8) (sym z ∙ q))) ])
+    let next = marked_next a.gaqmod a.hebap.now a.gaqbin.now c.loop-i.gaqbin c.loop-i.i c.loop-i.active c.loop-i.invariant m (omega arith) (omega arith) e c.if-m-eq1.active in
+    elim c.if-m-eq1.branch [ then-m-eq1 w ↦ next.0 w.active-is (ap (to_z w8) w.if-m-eq1.true) | else-m-eq1 w ↦ next.1 w.active-is (λ q. w.if-m-eq1.false (ap (of_z w8) (sym z ∙ q))) ]
 
 pub returns : goal.returns
-returns c = let a = c.args in let both = marked_all a.gaqmod a.hebap.now a.gaqbin.now c.loop-i.gaqbin c.loop-i.i c.loop-i.active c.loop-i.invariant.2 (omega arith) (omega arith) in record { value = both.0; gaqbin_after = both.1 }
+returns c = let a = c.args in let both = marked_all a.gaqmod a.hebap.now a.gaqbin.now c.loop-i.gaqbin c.loop-i.i c.loop-i.active c.loop-i.invariant (omega arith) (omega arith) in record { value = both.0; gaqbin_after = both.1 }

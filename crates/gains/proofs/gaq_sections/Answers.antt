@@ -2,21 +2,17 @@
 use mathlib.Core.Path.{ap}
 use borrow.Author.Tests.{le-leb, lt-leb, ne_eqb}
 use native.Mathlib.Omega.{arith}
+use Rattle.std.specs.Prelude.{Ok}
 use Rattle.gains.specs.Gains.{gaq_sections, sections}
-use Rattle.answers.specs.declared.SizeResult.TheVariants.{Value}
 use Rattle.gains.proofs.gaq_sections.Goals as goal
 
 pub returns-in-0 : goal.returns-in-0
 unfolding gaq_sections sections
 returns-in-0 c = simp c.in-0.is
 
-pub returns-then-active_gaqbins-eq0 : goal.returns-then-active_gaqbins-eq0
+pub returns-in-3 : goal.returns-in-3
 unfolding gaq_sections sections
-returns-then-active_gaqbins-eq0 c = simp c.in-3.is (ap Value (omega arith))
-
-pub returns-else-active_gaqbins-eq0 : goal.returns-else-active_gaqbins-eq0
-unfolding gaq_sections sections
-returns-else-active_gaqbins-eq0 c = simp c.in-3.is (ap Value (omega arith))
+returns-in-3 c = simp c.in-3.is (ap Ok (omega arith))
 
 pub returns-in-1 : goal.returns-in-1
 unfolding gaq_sections sections

@@ -13,4 +13,4 @@ returns-then-gaqmod-eq3 c = simp (ne_eqb _ _ c.if-gaqmod-eq0.false, eq-eqb _ _ c
 
 pub returns : goal.returns
 unfolding words_read
-returns c = simp (ne_eqb _ _ c.if-gaqmod-eq0.false, ne_eqb _ _ c.if-gaqmod-eq3.false, c.least.ensures)
+returns c = simp (ne_eqb _ _ c.if-gaqmod-eq0.false, ne_eqb _ _ c.if-gaqmod-eq3.false, c.min.ensures)
