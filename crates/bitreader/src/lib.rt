@@ -3,9 +3,10 @@
 #![tactic(auto)]
 
 ghost use Rattle.std.specs.Prelude.{◌≡◌};
-ghost use Rattle.bitreader.specs.Reads.{step_from, at_start, answered, read_on, all_three, three_from};
+ghost use Rattle.bitreader.specs.Reads.{at_start, answered, read_on, all_three, three_from};
 
-use bits::{BitPos, BitRead};
+use answers::Refusal;
+use bits::BitPos;
 
 // The Rust's BitReader: the bytes and the position of the next bit.
 #[derive(Drop)]
@@ -14,41 +15,13 @@ pub struct BitReader<'a> {
     pub pos: BitPos,
 }
 
-// What a reader's read_u32 answers, where the Rust has a Result: the number, or the number of the refusal.
+// Three numbers and the position behind them.
 #[derive(Clone, Copy)]
-pub enum U32Result {
-    Value(u32),
-    Refused(u8),
-}
-
-// An answer and the position behind it, which a refusal leaves as it was.
-#[derive(Clone, Copy)]
-pub struct Step {
-    pub answer: U32Result,
+pub struct Three {
+    pub first: u32,
+    pub second: u32,
+    pub third: u32,
     pub pos: BitPos,
-}
-
-// What read_three answers: the numbers and the position behind them, or the first refusal.
-#[derive(Clone, Copy)]
-pub enum ThreeResult {
-    Values(u32, u32, u32, BitPos),
-    Refused(u8),
-}
-
-// The work of read_u32, on a plain slice.
-fn read_at(src: &[u8], pos: BitPos, n: u32) -> Step
-    ensures { result ≡ step_from src.now pos n }
-{
-    match pos.read_u32(src, n) {
-        BitRead::Number(v, q) => Step {
-            answer: U32Result::Value(v),
-            pos: q,
-        },
-        BitRead::Refused(k) => Step {
-            answer: U32Result::Refused(k),
-            pos,
-        },
-    }
 }
 
 impl<'a> BitReader<'a> {
@@ -63,34 +36,35 @@ impl<'a> BitReader<'a> {
     }
 
     // The next n bits as an unsigned number, and the reader moves behind them. Refuses with 12, then 8, and stays.
-    pub fn read_u32(&mut self, n: u32) -> U32Result
+    pub fn read_u32(&mut self, n: u32) -> Result<u32, Refusal>
         ensures { (result ≡ answered self.old n) × (self.new ≡ read_on self.old n) }
     {
-        let step = read_at(self.src, self.pos, n);
-        self.pos = step.pos;
-        step.answer
+        let (v, next) = self.pos.read_u32(self.src, n)?;
+        self.pos = next;
+        Ok(v)
     }
 }
 
 // Three answers as one.
-fn all_three(x: U32Result, y: U32Result, z: U32Result, pos: BitPos) -> ThreeResult
+fn all_three(
+    x: Result<u32, Refusal>,
+    y: Result<u32, Refusal>,
+    z: Result<u32, Refusal>,
+    pos: BitPos,
+) -> Result<Three, Refusal>
     ensures { result ≡ all_three x y z pos }
 {
-    match x {
-        U32Result::Refused(k) => ThreeResult::Refused(k),
-        U32Result::Value(u) => match y {
-            U32Result::Refused(k) => ThreeResult::Refused(k),
-            U32Result::Value(v) => match z {
-                U32Result::Refused(k) => ThreeResult::Refused(k),
-                U32Result::Value(w) => ThreeResult::Values(u, v, w, pos),
-            },
-        },
-    }
+    Ok(Three {
+        first: x?,
+        second: y?,
+        third: z?,
+        pos,
+    })
 }
 
 // The numbers of a, b and c bits that stand one after another from a position on, read through a reader. Every read is
 // made: where one refuses, the first refusal is the answer, whatever the later ones say.
-pub fn read_three(src: &[u8], pos: BitPos, a: u32, b: u32, c: u32) -> ThreeResult
+pub fn read_three(src: &[u8], pos: BitPos, a: u32, b: u32, c: u32) -> Result<Three, Refusal>
     ensures { result ≡ three_from src.now pos a b c }
 {
     let mut reader = BitReader::new(src);

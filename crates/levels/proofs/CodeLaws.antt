@@ -9,6 +9,7 @@ use lib.Dec.{eqb}
 use lib.ListN.{length}
 use lib.Pow.{pow_pos}
 use borrow.Author.Tests.{eqb-true, eqb-false, eq-eqb, ne_eqb}
+use Rattle.answers.specs.declared.Refusal.{Refusal}
 use Rattle.bits.specs.Format.{Format, got, refused, number, only, both, shown}
 use Rattle.bits.proofs.Lawful.{Lawful, number_lawful, only_lawful, both_lawful, shown_lawful}
 use Rattle.bits.proofs.Sized.{Sized, number_sized, only_sized, both_sized, shown_sized}
@@ -145,7 +146,7 @@ coded_sized m g = by_gain (λ F. Sized F (code_bits m g)) m g one more
 
 -- ---- reading, by its cases
 module _ (w w' : ℕ) (bs : List Bool) where
-  pub tagged_none : (k : ℕ) → (number w).dec bs ≡ refused k → (tagged w w').dec bs ≡ refused k
+  pub tagged_none : (k : Refusal) → (number w).dec bs ≡ refused k → (tagged w w').dec bs ≡ refused k
   unfolding tagged
   tagged_none k e = rw e
 
@@ -153,7 +154,7 @@ module _ (w w' : ℕ) (bs : List Bool) where
   unfolding tagged
   tagged_small s rest e h = let t = ne_eqb s (tag w) h in rw (e, t, t)
 
-  pub tagged_cut : (s k : ℕ) (rest : List Bool) → (number w).dec bs ≡ got s rest → s ≡ tag w → (number w').dec rest ≡ refused k → (tagged w w').dec bs ≡ refused k
+  pub tagged_cut : (s : ℕ) (k : Refusal) (rest : List Bool) → (number w).dec bs ≡ got s rest → s ≡ tag w → (number w').dec rest ≡ refused k → (tagged w w').dec bs ≡ refused k
   unfolding tagged
   tagged_cut s k rest e h f = rw (e, eq-eqb s (tag w) h, f)
 
@@ -163,7 +164,7 @@ module _ (w w' : ℕ) (bs : List Bool) where
   tagged_large s l rest rest' e h f = let t = eq-eqb s (tag w) h in rw (e, t, f, t)
 
 module _ (m g : ℕ) (bs : List Bool) (one : eqb g 1 ≡ true) where
-  pub coded_one_none : (k : ℕ) → (number m).dec bs ≡ refused k → (coded m g).dec bs ≡ refused k
+  pub coded_one_none : (k : Refusal) → (number m).dec bs ≡ refused k → (coded m g).dec bs ≡ refused k
   coded_one_none k e = rw (coded_one m g one, e)
 
   pub coded_one_large : (l : ℕ) (rest : List Bool) → (number m).dec bs ≡ got l rest → (coded m g).dec bs ≡ got (Code.Large l) rest

@@ -7,7 +7,6 @@ use native.Mathlib.Nat.{le_trans, mul-le-mul_right}
 use borrow.Author.Tests.{ltb-false, le-ltb}
 use lib.ListN.{take, drop}
 use lib.Ieee.{Float, nan, inf, fin, up, down}
-use Rattle.answers.specs.Causes as cause
 use Rattle.bits.proofs.Tests.{neither}
 use Rattle.levels.specs.Component.{beyond, some_beyond, Later, Widened}
 
@@ -37,7 +36,7 @@ some_part l (suc m) n (y ∷ x) f = some_part l m n x (neither (beyond l y) (som
 
 -- ---- an answer behind the test of the components, where a call makes it
 module _ {A : Type 0} (number : A → ℕ) (refused rest other : A) where
-  pub tested : number refused ≡ cause.component → Later (number rest) → (number other ≡ cause.component → ⊥)
+  pub tested : number refused ≡ 5 → Later (number rest) → (number other ≡ 5 → ⊥)
       → (made t t' : Bool) → (t ≡ false → t' ≡ false) → Widened number t' (cond made (cond t refused rest) other) (cond made (cond t' refused rest) other)
   tested n m o false t t' h = record { kept = λ e. refl; still = λ e w. refl; former = λ e w. absurd (o e) }
   tested n m o true true true h = record { kept = λ e. refl; still = λ e w. refl; former = λ e w. absurd (true≢false w) }
@@ -47,7 +46,7 @@ module _ {A : Type 0} (number : A → ℕ) (refused rest other : A) where
 
 -- ---- an answer that is made of another: 5 where that is, and no earlier number for it
 module _ {A B : Type 0} (na : A → ℕ) (nb : B → ℕ) (f : A → B) where
-  pub made_of : ((a : A) → na a ≡ cause.component → nb (f a) ≡ cause.component) → ((a : A) → nb (f a) ≡ cause.component → na a ≡ cause.component)
+  pub made_of : ((a : A) → na a ≡ 5 → nb (f a) ≡ 5) → ((a : A) → nb (f a) ≡ 5 → na a ≡ 5)
       → ((a : A) → Later (na a) → Later (nb (f a)))
       → (over : Bool) (a a' : A) → Widened na over a a' → Widened nb over (f a) (f a')
   made_of five only later over a a' w =

@@ -2,7 +2,6 @@
 use Rattle.std.specs.Prelude.{ℕ, ◌*◌, ◌<◌, ◌≡◌, ◌⊎◌, Bool, true, false, ◌||◌, List, [], ◌∷◌, ltb, Float}
 use Rattle.std.specs.Float.{nan, inf, fin}
 use Rattle.std.specs.Float.Ieee.{up, down}
-use Rattle.answers.specs.Causes as cause
 
 -- NaN, infinite or over a limit in size
 unfoldable pub beyond : ℕ → Float → Bool
@@ -28,11 +27,11 @@ some_too_large = some_beyond largest_size
 -- ---- the answers of a call at a limit and at a wider one; `over`: a component is over the wider one
 -- a number that is none, or later than 5
 abbrev pub Later : ℕ → Type 0
-Later n = (n ≡ cause.none) ⊎ (cause.component < n)
+Later n = (n ≡ 0) ⊎ (5 < n)
 
 pub record Widened {A : Type 0} (number : A → ℕ) (over : Bool) (before after : A) : Type 0 where
   -- an answer whose number is not 5 is kept, and so is a 5 of a component that is over both
-  pub kept : (number before ≡ cause.component → ⊥) → after ≡ before
-  pub still : number before ≡ cause.component → over ≡ true → after ≡ before
+  pub kept : (number before ≡ 5 → ⊥) → after ≡ before
+  pub still : number before ≡ 5 → over ≡ true → after ≡ before
   -- any other 5 is answered, or refused with a later number
-  pub former : number before ≡ cause.component → over ≡ false → Later (number after)
+  pub former : number before ≡ 5 → over ≡ false → Later (number after)

@@ -1,0 +1,58 @@
+-- The numbers of refusals: 1 to 13, each its own. Assumes nothing.
+use Prim.Native.Nat.{ℕ, ◌≤◌, ◌<◌}
+use mathlib.Core.Path.{◌≡◌, refl, sym, ap, ◌∙◌}
+use mathlib.Core.List.{[], ◌∷◌}
+use lib.ListN.{get_or}
+use native.Mathlib.Omega.{arith}
+use Rattle.std.specs.Prelude.{Result, Ok, Err}
+use Rattle.answers.specs.declared.Refusal.{Refusal}
+use Rattle.answers.specs.declared.Refusal.TheVariants.{StartAboveEnd, EndAbove256, TooShort, HebapAbove19, Component, PlanMisfit, OutputFull, InputEnds, GroupWord, UnusedCode, NoQuantiser, OutOfRange, Text}
+use Rattle.answers.specs.Causes.{number}
+use Rattle.answers.specs.Answers.{answer_number}
+
+-- a refusal has a number
+pub numbered : (k : Refusal) → 1 ≤ number k
+numbered StartAboveEnd = omega arith
+numbered EndAbove256 = omega arith
+numbered TooShort = omega arith
+numbered HebapAbove19 = omega arith
+numbered Component = omega arith
+numbered PlanMisfit = omega arith
+numbered OutputFull = omega arith
+numbered InputEnds = omega arith
+numbered GroupWord = omega arith
+numbered UnusedCode = omega arith
+numbered NoQuantiser = omega arith
+numbered OutOfRange = omega arith
+numbered Text = omega arith
+
+-- an answer without one has a value
+pub record Answered {A : Type 0} (r : Result A Refusal) : Type 0 where
+  pub value : A
+  pub is : r ≡ Ok value
+
+pub answer_there : {A : Type 0} (r : Result A Refusal) → answer_number r ≡ 0 → Answered r
+answer_there (Ok a) e = record { value = a; is = refl }
+answer_there (Err k) e = let n = numbered k in absurd (omega arith)
+
+-- and the number tells which refusal it is
+abbrev by_number : ℕ → Refusal
+by_number n = get_or (Text ∷ StartAboveEnd ∷ EndAbove256 ∷ TooShort ∷ HebapAbove19 ∷ Component ∷ PlanMisfit ∷ OutputFull ∷ InputEnds ∷ GroupWord ∷ UnusedCode ∷ NoQuantiser ∷ OutOfRange ∷ Text ∷ []) n Text
+
+at_number : (k : Refusal) → by_number (number k) ≡ k
+at_number StartAboveEnd = refl
+at_number EndAbove256 = refl
+at_number TooShort = refl
+at_number HebapAbove19 = refl
+at_number Component = refl
+at_number PlanMisfit = refl
+at_number OutputFull = refl
+at_number InputEnds = refl
+at_number GroupWord = refl
+at_number UnusedCode = refl
+at_number NoQuantiser = refl
+at_number OutOfRange = refl
+at_number Text = refl
+
+pub same_refusal : (j k : Refusal) → number j ≡ number k → j ≡ k
+same_refusal j k e = sym (at_number j) ∙ ap by_number e ∙ at_number k
