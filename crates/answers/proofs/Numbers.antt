@@ -1,10 +1,11 @@
 -- The numbers of refusals: 1 to 13, each its own. Assumes nothing.
-use Prim.Native.Nat.{ℕ, ◌≤◌, ◌<◌}
+use Prim.Native.Nat.{ℕ, ◌≤◌}
 use mathlib.Core.Path.{◌≡◌, refl, sym, ap, ◌∙◌}
 use mathlib.Core.List.{[], ◌∷◌}
 use lib.ListN.{get_or}
 use native.Mathlib.Omega.{arith}
-use Rattle.std.specs.Prelude.{Result, Ok, Err}
+use Rattle.std.specs.Prelude.{Result, Ok, Err, IsErr, IsErrAnd}
+use Rattle.std.proofs.lemmas.Result.{err_from_is_err_and}
 use Rattle.answers.specs.declared.Refusal.{Refusal}
 use Rattle.answers.specs.declared.Refusal.TheVariants.{StartAboveEnd, EndAbove256, TooShort, HebapAbove19, Component, PlanMisfit, OutputFull, InputEnds, GroupWord, UnusedCode, NoQuantiser, OutOfRange, Text}
 use Rattle.answers.specs.Causes.{number}
@@ -56,3 +57,7 @@ at_number Text = refl
 
 pub same_refusal : (j k : Refusal) → number j ≡ number k → j ≡ k
 same_refusal j k e = sym (at_number j) ∙ ap by_number e ∙ at_number k
+
+-- ---- what the exit of a `?` returns: the refusal that it met
+pub passed_on : {A : Type 0} {r : Result A Refusal} {k : Refusal} → IsErr r × IsErrAnd r (λ j. j ≡ k) → r ≡ Err k
+passed_on {r = r} e = let p = err_from_is_err_and r e.1 in p.1 ∙ ap Err p.2

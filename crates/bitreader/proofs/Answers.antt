@@ -1,5 +1,5 @@
 -- The reader's answers by number and value: those of bits' read_u32. Assumes nothing.
-use Prim.Native.Nat.{ℕ, ◌≤◌}
+use Prim.Native.Nat.{ℕ}
 use mathlib.Core.Path.{◌≡◌, refl, sym, ap}
 use mathlib.Core.Bool.{cond}
 use mathlib.Core.List.{List}

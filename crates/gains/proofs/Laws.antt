@@ -12,9 +12,9 @@ use lib.Pow.{pow_mono}
 use lib.Dec.{leb, eqb}
 use lib.IntN.{ℤ, pos, negsuc}
 use borrow.Author.Tests.{eq-eqb, ne_eqb, le-leb, lt-leb, leb-true, leb-false}
-use Rattle.bits.specs.Bits.{number_of, bits_of, pos_of, read_u32}
+use Rattle.bits.specs.Bits.{number_of, bits_of, pos_of}
 use Rattle.bits.specs.declared.BitPos.{BitPos}
-use Rattle.bits.proofs.Laws.{number_take_lt, read_good}
+use Rattle.bits.proofs.Laws.{number_take_lt}
 use Rattle.gains.specs.Gains.{endbap, marked, gaqbin_of, marked_bins, fill_gaqbin, gaqbin_after, gain_value, other_gains, member, allowed_gain, word_bits, word_codes, words_read, words_end, codes_from, gain_codes, read_gaq_gains, gains_after}
 use Rattle.gains.specs.Work.{placed}
 use Rattle.std.specs.Prelude.{Ok, Err}

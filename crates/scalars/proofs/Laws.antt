@@ -2,15 +2,15 @@
 use Prim.Native.Nat.{ℕ, ◌*◌, ◌≤◌, ◌<◌}
 use mathlib.Core.Path.{◌≡◌, refl, sym, ap, ◌∙◌}
 use mathlib.Core.Bool.{Bool}
-use mathlib.Core.List.{List, ◌++◌, append-nil}
+use mathlib.Core.List.{List}
 use native.Mathlib.Omega.{arith}
 use lib.IntN.{ℤ, pos, negsuc}
 use mir.Syntax.{w8}
 use mir.Val.{SFits, to_z, of_z}
 use mir.ValLaws.{to_z-of_z}
-use lib.ListN.{length, take, drop, replicate, drop_of_length-le}
-use lib.Seq.{take_all}
+use lib.ListN.{length, drop, replicate}
 use borrow.Author.Tests.{ne_eqb, le-leb, lt-leb}
+use Rattle.answers.specs.declared.Refusal.TheVariants.{HebapAbove19, InputEnds, OutOfRange}
 use Rattle.bits.specs.Bits.{bits_of}
 use Rattle.bits.specs.Format.{got, refused}
 use Rattle.gains.specs.Gains.{gain_value}
@@ -30,15 +30,15 @@ gain_there z code mode f e = rw (is_one z f e)
 
 -- ---- the scalar reader by its cases
 module _ (s : List ℕ) (at h mode : ℕ) (z : ℤ) (code : ℕ) where
-  pub scalars_mode : 3 < mode → scalars_read s at h mode z code ≡ refused 12
+  pub scalars_mode : 3 < mode → scalars_read s at h mode z code ≡ refused OutOfRange
   unfolding scalars_read
   scalars_mode m = rw (lt-leb mode 3 m)
 
-  pub scalars_hebap : mode ≤ 3 → 19 < h → scalars_read s at h mode z code ≡ refused 4
+  pub scalars_hebap : mode ≤ 3 → 19 < h → scalars_read s at h mode z code ≡ refused HebapAbove19
   unfolding scalars_read
   scalars_hebap m k = rw (le-leb mode 3 m, lt-leb h 19 k)
 
-  pub scalars_past : mode ≤ 3 → h ≤ 19 → 8 * length s < at → scalars_read s at h mode z code ≡ refused 8
+  pub scalars_past : mode ≤ 3 → h ≤ 19 → 8 * length s < at → scalars_read s at h mode z code ≡ refused InputEnds
   unfolding scalars_read
   scalars_past m k p = rw (le-leb mode 3 m, le-leb h 19 k, lt-leb at (8 * length s) p)
 
@@ -53,7 +53,3 @@ bin_none h g bs k = let l : h ≤ 7 = omega arith in rw (le-leb h 7 l)
 pub bin_values_lem : (h g : ℕ) (bs : List Bool) → 8 ≤ h → bin_read h g bs ≡ values_read h g bs
 unfolding bin_read
 bin_values_lem h g bs k = rw (lt-leb h 7 k)
-
--- ---- copying
-pub copy_end : {A : Type 0} (b o : List A) (i : ℕ) → length b ≤ i → length o ≤ i → take i b ++ drop i o ≡ b
-copy_end b o i h k = rw (take_all i b h, drop_of_length-le o k, append-nil)

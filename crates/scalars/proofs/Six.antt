@@ -21,7 +21,8 @@ use Rattle.levels.specs.Codes.{coded, six, Accepted}
 use Rattle.levels.specs.Exact.{exact_of}
 use Rattle.levels.specs.Value.{value_of}
 use Rattle.levels.proofs.CodeLaws.{coded_lawful, coded_accepted}
-use Rattle.bits.specs.declared.BitMove.{BitMove}
+use Rattle.std.specs.Prelude.{Result, Ok, Err}
+use Rattle.answers.specs.declared.Refusal.{Refusal}
 use Rattle.bits.specs.Format.{move_answer}
 use Rattle.scalars.specs.Scalars.{scalars_after}
 use Rattle.scalars.specs.Work.{code_and, codes_there, six_values, six_exacts}
@@ -36,7 +37,7 @@ module _ (F : Format Code) (n : ℕ) (bs : List Bool) where
   unfolding codes_there
   there_more c rest e = rw e
 
-  there_cut : (k : ℕ) → F.dec bs ≡ refused k → codes_there F (suc n) bs ≡ []
+  there_cut : (k : Refusal) → F.dec bs ≡ refused k → codes_there F (suc n) bs ≡ []
   unfolding codes_there
   there_cut k e = rw e
 
@@ -70,7 +71,7 @@ module _ (h g at : ℕ) (s : List ℕ) (start : ℕ) (v : List Float) (x : List 
       }
 
   -- what a loop answers with, and what it leaves
-  abbrev pub Answered : BitMove → List Float → List ℤ → Type 0
+  abbrev pub Answered : Result BitPos Refusal → List Float → List ℤ → Type 0
   Answered r v' x' =
       (r ≡ move_answer (8 * length s) ((six (mant_bits h) g).dec (drop start (bits_of s))))
       × ((v' ≡ six_values h g at (drop start (bits_of s)) v) × (x' ≡ six_exacts h g at (drop start (bits_of s)) x))
@@ -88,7 +89,7 @@ module _ {h g at : ℕ} {s : List ℕ} {start : ℕ} {v : List Float} {x : List 
   in_lists v'' x'' e e' = rw (e, e') f
 
   -- where the codes so far are all that are there
-  put : (r : BitMove) → r ≡ move_answer (8 * length s) ((six (mant_bits h) g).dec (drop start (bits_of s))) → codes_there (coded (mant_bits h) g) 6 (drop start (bits_of s)) ≡ f.cs
+  put : (r : Result BitPos Refusal) → r ≡ move_answer (8 * length s) ((six (mant_bits h) g).dec (drop start (bits_of s))) → codes_there (coded (mant_bits h) g) 6 (drop start (bits_of s)) ≡ f.cs
       → Answered h g at s start v x r v' x'
   unfolding six_values six_exacts
   put r a e = (a, (rw e f.values, rw e f.exacts))
@@ -121,18 +122,18 @@ module _ {h g at : ℕ} {s : List ℕ} {start : ℕ} {v : List Float} {x : List 
         }
 
     -- the bits run out
-    pub cut : (k : ℕ) → (coded (mant_bits h) g).dec here ≡ refused k → Answered h g at s start v x (BitMove.Refused k) v' x'
+    pub cut : (k : Refusal) → (coded (mant_bits h) g).dec here ≡ refused k → Answered h g at s start v x (Err k) v' x'
     cut k e =
         let d : (six (mant_bits h) g).dec (drop start (bits_of s)) ≡ refused k = f.rest ∙ rw left (resume_stop one 0 (replicate (6 - (j + 1)) 0) here f.cs k e) in
-        put (BitMove.Refused k) (rw d refl) (f.there ∙ rw (turns, there_cut (coded (mant_bits h) g) (6 - (j + 1)) here k e, append-nil))
+        put (Err k) (rw d refl) (f.there ∙ rw (turns, there_cut (coded (mant_bits h) g) (6 - (j + 1)) here k e, append-nil))
 
   -- all six are there
-  pub all_read : 6 ≤ j → (q : BitPos) → q ≡ p → Answered h g at s start v x (BitMove.Done q) v' x'
+  pub all_read : 6 ≤ j → (q : BitPos) → q ≡ p → Answered h g at s start v x (Ok q) v' x'
   all_read l q e =
       let z : 6 - j ≡ 0 = omega arith in
       let n : replicate {A = ℕ} (6 - j) 0 ≡ [] = ap (λ (n : ℕ). replicate {A = ℕ} n 0) z in
       let d : (six (mant_bits h) g).dec (drop start (bits_of s)) ≡ got f.cs here = f.rest ∙ rw n (resume_done one here f.cs) in
-      put (BitMove.Done q) (ap BitMove.Done (e ∙ sym (pos_is s p f.inside)) ∙ ap (move_answer (8 * length s)) (sym d))
+      put (Ok q) (ap Ok (e ∙ sym (pos_is s p f.inside)) ∙ ap (move_answer (8 * length s)) (sym d))
       (f.there ∙ rw (z, there_none (coded (mant_bits h) g) here, append-nil))
 
 -- ---- the six values put out
@@ -172,13 +173,13 @@ module _ (h g n : ℕ) (bs : List Bool) (out : List Float) where
   abbrev shown_as : List Code → List Bool → Got (List Float)
   shown_as cs rest = got (map (value_of h g) cs) rest
 
-  pub values_none : (k : ℕ) (G : Got (List Code)) → BitMove.Refused k ≡ move_answer n G
-      → (BitMove.Refused k ≡ move_answer n (and_then G shown_as)) × (out ≡ scalars_after out (and_then G shown_as))
+  pub values_none : (k : Refusal) (G : Got (List Code)) → Err k ≡ move_answer n G
+      → (Err k ≡ move_answer n (and_then G shown_as)) × (out ≡ scalars_after out (and_then G shown_as))
   values_none k (got cs rest) e = let z : ◌≡◌ {A = ℕ} 0 1 = cc in absurd (omega arith)
   values_none k (refused j) e = (e, refl)
 
-  pub values_all : (q : BitPos) (v v' : List Float) (G : Got (List Code)) → (six (mant_bits h) g).dec bs ≡ G → BitMove.Done q ≡ move_answer n G
-      → v' ≡ six_values h g 0 bs v → length v ≡ 6 → (BitMove.Done q ≡ move_answer n (and_then G shown_as)) × (v' ≡ scalars_after out (and_then G shown_as))
+  pub values_all : (q : BitPos) (v v' : List Float) (G : Got (List Code)) → (six (mant_bits h) g).dec bs ≡ G → Ok q ≡ move_answer n G
+      → v' ≡ six_values h g 0 bs v → length v ≡ 6 → (Ok q ≡ move_answer n (and_then G shown_as)) × (v' ≡ scalars_after out (and_then G shown_as))
   unfolding six_values
   values_all q v v' (got cs rest) d e p l =
       let k = six_there (mant_bits h) g bs rest cs d in

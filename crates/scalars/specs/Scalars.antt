@@ -1,6 +1,6 @@
 -- What reading scalar mantissas answers: a code, a bin, read_scalar_aht_mantissas.
 -- docs/FORMAT.md, Levels and 'Small ports'; ATSC A/52 Annex E, 3.4.4.2.
-use Rattle.std.specs.Prelude.{ℕ, ◌*◌, Bool, cond, List, map, eqb, leb, ℤ, pos, negsuc, length, drop, replicate, Float}
+use Rattle.std.specs.Prelude.{ℕ, ◌*◌, Bool, cond, List, map, eqb, leb, ℤ, pos, negsuc, length, drop, replicate, Float, Result, Ok, Err}
 use Rattle.bits.specs.Bits.{bits_of, bit_at}
 use Rattle.bits.specs.Format.{Got, got, refused, and_then}
 use Rattle.tables.specs.Tables.{mant_bits}
@@ -8,14 +8,15 @@ use Rattle.gains.specs.Gains.{gain_value}
 use Rattle.levels.specs.declared.Code.{Code}
 use Rattle.levels.specs.Codes.{six}
 use Rattle.levels.specs.Value.{f0, value_of}
-use Rattle.scalars.specs.declared.CodeResult.{CodeResult}
-use Rattle.answers.specs.Causes as cause
+use Rattle.bits.specs.declared.BitPos.{BitPos}
+use Rattle.answers.specs.declared.Refusal.{Refusal}
+use Rattle.answers.specs.declared.Refusal.TheVariants.{HebapAbove19, InputEnds, OutOfRange}
 
 -- ---- the answers: the number, and the values, of each case
 -- what an answer of read_code shows of the bits bs: the code and the bits behind it, or the refusal
-abbrev pub code_in : List Bool → CodeResult → Got Code
-code_in bs (CodeResult.Read c p) = got c (drop (bit_at p) bs)
-code_in bs (CodeResult.Refused k) = refused k
+abbrev pub code_in : List Bool → Result (Code × BitPos) Refusal → Got Code
+code_in bs (Ok r) = got r.0 (drop (bit_at r.1) bs)
+code_in bs (Err k) = refused k
 
 -- ---- read_scalar_aht_mantissas
 -- Gk: by the gain code where gaqbin is 1, else 1
@@ -37,9 +38,9 @@ unfoldable pub scalars_read : List ℕ → ℕ → ℕ → ℕ → ℤ → ℕ �
 scalars_read s at h mode gaqbin code =
     cond (leb mode 3)
     (cond (leb h 19)
-    (cond (leb at (8 * length s)) (bin_read h (gain_of gaqbin code mode) (drop at (bits_of s))) (refused cause.input_ends))
-    (refused cause.hebap_above19))
-    (refused cause.out_of_range)
+    (cond (leb at (8 * length s)) (bin_read h (gain_of gaqbin code mode) (drop at (bits_of s))) (refused InputEnds))
+    (refused HebapAbove19))
+    (refused OutOfRange)
 
 -- the output afterwards: as it was where the call refuses
 abbrev pub scalars_after : List Float → Got (List Float) → List Float

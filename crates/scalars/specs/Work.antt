@@ -1,5 +1,5 @@
 -- How codes are read a bin at a time: no meaning of its own. The laws that join it to Scalars are in proofs/Six.antt.
-use Rattle.std.specs.Prelude.{ℕ, zero, suc, Bool, List, [], ◌∷◌, map, ℤ, Float}
+use Rattle.std.specs.Prelude.{ℕ, zero, suc, Bool, List, [], ◌∷◌, map, ℤ, Float, Result, Ok, Err}
 use Rattle.bits.specs.Bits.{splice, Inside}
 use Rattle.bits.specs.Format.{Format, Got, got, refused}
 use Rattle.tables.specs.Tables.{mant_bits}
@@ -7,12 +7,13 @@ use Rattle.levels.specs.declared.Code.{Code}
 use Rattle.levels.specs.Codes.{coded}
 use Rattle.levels.specs.Exact.{exact_of}
 use Rattle.levels.specs.Value.{value_of}
-use Rattle.scalars.specs.declared.CodeResult.{CodeResult}
+use Rattle.bits.specs.declared.BitPos.{BitPos}
+use Rattle.answers.specs.declared.Refusal.{Refusal}
 
 -- the position that read_code answers with is one of n bits
-abbrev pub CodeNext : ℕ → CodeResult → Type 0
-CodeNext n (CodeResult.Read c p) = Inside n p
-CodeNext n (CodeResult.Refused k) = Unit {0}
+abbrev pub CodeNext : ℕ → Result (Code × BitPos) Refusal → Type 0
+CodeNext n (Ok r) = Inside n r.1
+CodeNext n (Err k) = Unit {0}
 
 -- ---- the six codes of a bin
 -- the codes that are there, up to n, before the bits run out

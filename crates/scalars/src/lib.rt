@@ -9,20 +9,13 @@ ghost use Rattle.levels.specs.Codes.{tagged, coded, six, Accepted};
 ghost use Rattle.levels.specs.Exact.{exact_of};
 ghost use Rattle.levels.specs.Value.{f0, value_of};
 ghost use Rattle.levels.specs.Work.{IsScale};
-ghost use Rattle.bits.specs.declared.BitMove.{BitMove};
 ghost use Rattle.bits.specs.Format.{move_answer};
 ghost use Rattle.scalars.specs.Scalars.{code_in, gain_of, values_read, bin_read, scalars_read, scalars_after};
 ghost use Rattle.scalars.specs.Work.{CodeNext, six_values, six_exacts};
 
-use bits::{BitMove, BitPos};
+use answers::Refusal;
+use bits::BitPos;
 use levels::{Code, CodeScale};
-
-// What read_code answers: the code and the advanced position, or the number of the refusal.
-#[derive(Clone, Copy)]
-pub enum CodeResult {
-    Read(Code, BitPos),
-    Refused(u8),
-}
 
 // A code and how many bits it takes.
 #[derive(Clone, Copy)]
@@ -32,30 +25,23 @@ pub struct CodeAhead {
 }
 
 // s in w bits; the tag is followed by l in v bits.
-fn read_tagged(src: &[u8], pos: BitPos, w: u32, v: u32) -> CodeResult
+fn read_tagged(src: &[u8], pos: BitPos, w: u32, v: u32) -> Result<(Code, BitPos), Refusal>
     requires le_w { (1 ≤ w) × (w ≤ 16) × (v ≤ 16) }
     requires pos_bound { bit_at pos ≤ 8 * length src.now }
     ensures result_value { code_in (bits_of src.now) result ≡ (tagged w v).dec (drop (bit_at pos) (bits_of src.now)) }
     ensures code_next { CodeNext (8 * length src.now) result }
 {
-    if !pos.has_bits(src.len(), 1, w as usize) {
-        return CodeResult::Refused(answers::INPUT_ENDS);
-    }
-    let s = pos.peek(src, w);
-    let next = pos.advance(1, w as usize);
+    let (s, next) = pos.read_u32(src, w)?;
     if s != bits::pow2(w - 1) {
-        return CodeResult::Read(Code::Small(s), next);
+        return Ok((Code::Small(s), next));
     }
-    if !next.has_bits(src.len(), 1, v as usize) {
-        return CodeResult::Refused(answers::INPUT_ENDS);
-    }
-    let l = next.peek(src, v);
-    CodeResult::Read(Code::Large(l), next.advance(1, v as usize))
+    let (l, last) = next.read_u32(src, v)?;
+    Ok((Code::Large(l), last))
 }
 
 // A code of the hebap at the gain.
 #[tactic(auto, using(tables::proofs::Rules::mant_bits_lem, levels::proofs::CodeLaws::coded_tagged))]
-pub fn read_code(src: &[u8], pos: BitPos, hebap: u8, gk: u8) -> CodeResult
+pub fn read_code(src: &[u8], pos: BitPos, hebap: u8, gk: u8) -> Result<(Code, BitPos), Refusal>
     requires le_hebap { (8 ≤ hebap) × (hebap ≤ 19) }
     requires pos_bound { bit_at pos ≤ 8 * length src.now }
     ensures result_value { code_in (bits_of src.now) result ≡ (coded (mant_bits hebap) gk).dec (drop (bit_at pos) (bits_of src.now)) }
@@ -63,11 +49,8 @@ pub fn read_code(src: &[u8], pos: BitPos, hebap: u8, gk: u8) -> CodeResult
 {
     let m = levels::mant(hebap);
     if gk == 1 {
-        if !pos.has_bits(src.len(), 1, m as usize) {
-            return CodeResult::Refused(answers::INPUT_ENDS);
-        }
-        let l = pos.peek(src, m);
-        return CodeResult::Read(Code::Large(l), pos.advance(1, m as usize));
+        let (l, next) = pos.read_u32(src, m)?;
+        return Ok((Code::Large(l), next));
     }
     read_tagged(
         src,
@@ -102,19 +85,17 @@ fn read_fixed(
     requires gk_value { s.gk ≡ 1 }
     requires bit_bound { (pos.bit < 8) × (pos.byte + 28 ≤ length src.now) }
     requires at_in_bounds { (at + 6 ≤ length values.old) × (at + 6 ≤ length exact.old) }
-    ensures result_value { BitMove.Done result ≡ move_answer (8 * length src.now) ((six (mant_bits s.hebap) s.gk).dec (drop (bit_at pos) (bits_of src.now))) }
+    ensures result_value { Ok result ≡ move_answer (8 * length src.now) ((six (mant_bits s.hebap) s.gk).dec (drop (bit_at pos) (bits_of src.now))) }
     ensures values_after { values.new ≡ six_values s.hebap s.gk at (drop (bit_at pos) (bits_of src.now)) values.old }
     ensures exact_after { exact.new ≡ six_exacts s.hebap s.gk at (drop (bit_at pos) (bits_of src.now)) exact.old }
 {
     let mut d: u32 = 0;
-    let mut j: usize = 0;
-    while j < 6 {
+    for j in 0..6 {
         let p = pos.advance_bits(d);
         let u = p.peek_word(src, s.large);
         values[at + j] = levels::fixed_value(s, u);
         exact[at + j] = levels::fixed_exact(s, u);
         d += s.large;
-        j += 1;
     }
     pos.advance_bits(d)
 }
@@ -155,19 +136,16 @@ fn read_small_or_large(
     requires fact { s.gk ≡ 1 → ⊥ }
     requires bit_bound { (pos.bit < 8) × (pos.byte + 28 ≤ length src.now) }
     requires at_in_bounds { (at + 6 ≤ length values.old) × (at + 6 ≤ length exact.old) }
-    ensures result_value { BitMove.Done result ≡ move_answer (8 * length src.now) ((six (mant_bits s.hebap) s.gk).dec (drop (bit_at pos) (bits_of src.now))) }
+    ensures result_value { Ok result ≡ move_answer (8 * length src.now) ((six (mant_bits s.hebap) s.gk).dec (drop (bit_at pos) (bits_of src.now))) }
     ensures values_after { values.new ≡ six_values s.hebap s.gk at (drop (bit_at pos) (bits_of src.now)) values.old }
     ensures exact_after { exact.new ≡ six_exacts s.hebap s.gk at (drop (bit_at pos) (bits_of src.now)) exact.old }
 {
     let mut d: u32 = 0;
-    let mut j: usize = 0;
-    while j < 6 {
+    for j in 0..6 {
         let p = pos.advance_bits(d);
         let c = code_ahead(s, src, p);
-        let code = c.code;
-        put_values(s, code, at + j, &mut *values, &mut *exact);
+        put_values(s, c.code, at + j, &mut *values, &mut *exact);
         d += c.bits;
-        j += 1;
     }
     pos.advance_bits(d)
 }
@@ -180,7 +158,7 @@ fn read_each(
     at: usize,
     values: &mut [f32],
     exact: &mut [i32],
-) -> BitMove
+) -> Result<BitPos, Refusal>
     requires scale { IsScale s }
     requires inside { Inside (8 * length src.now) pos }
     requires at_in_bounds { (at + 6 ≤ length values.old) × (at + 6 ≤ length exact.old) }
@@ -189,21 +167,12 @@ fn read_each(
     ensures exact_after { exact.new ≡ six_exacts s.hebap s.gk at (drop (bit_at pos) (bits_of src.now)) exact.old }
 {
     let mut p = pos;
-    let mut j: usize = 0;
-    while j < 6 {
-        let r = read_code(src, p, s.hebap, s.gk);
-        match r {
-            CodeResult::Refused(k) => {
-                return BitMove::Refused(k);
-            }
-            CodeResult::Read(code, next) => {
-                put_values(s, code, at + j, &mut *values, &mut *exact);
-                p = next;
-                j += 1;
-            }
-        }
+    for j in 0..6 {
+        let (code, next) = read_code(src, p, s.hebap, s.gk)?;
+        put_values(s, code, at + j, &mut *values, &mut *exact);
+        p = next;
     }
-    BitMove::Done(p)
+    Ok(p)
 }
 
 // The six codes of a bin: their f32 and exact values go to the places from `at` on. Six codes reach 24 bytes far at
@@ -215,7 +184,7 @@ pub fn read_six(
     at: usize,
     values: &mut [f32],
     exact: &mut [i32],
-) -> BitMove
+) -> Result<BitPos, Refusal>
     requires scale { IsScale s }
     requires inside { Inside (8 * length src.now) pos }
     requires at_in_bounds { (at + 6 ≤ length values.old) × (at + 6 ≤ length exact.old) }
@@ -226,9 +195,9 @@ pub fn read_six(
     let byte = pos.byte;
     if byte + 28 <= src.len() {
         if s.gk == 1 {
-            return BitMove::Done(read_fixed(s, src, pos, at, values, exact));
+            return Ok(read_fixed(s, src, pos, at, values, exact));
         }
-        return BitMove::Done(read_small_or_large(s, src, pos, at, values, exact));
+        return Ok(read_small_or_large(s, src, pos, at, values, exact));
     }
     read_each(s, src, pos, at, values, exact)
 }
@@ -243,105 +212,44 @@ fn gain_of(gaqbin: i8, gain_code: u8, gaqmod: u8) -> u8
     1
 }
 
-fn copy(from: &[f32], out: &mut [f32])
-    requires { length from.now ≡ length out.old }
-    ensures { out.new ≡ from.now }
-{
-    let mut j: usize = 0;
-    while j < out.len() {
-        out[j] = from[j];
-        j += 1;
-    }
-}
-
-// The six values of a bin, by scratch buffers: the output is written only when all six codes are there.
+// The six values of a bin: the output is written only when all six codes are there.
 fn read_values(
     src: &[u8],
     pos: BitPos,
     hebap: u8,
     gk: u8,
     out: &mut [f32],
-    values: &mut [f32],
-    exact: &mut [i32],
-) -> BitMove
+) -> Result<BitPos, Refusal>
     requires le_hebap { (8 ≤ hebap) × (hebap ≤ 19) }
     requires inside { Inside (8 * length src.now) pos }
-    requires out_len { (length out.old ≡ 6) × (length values.old ≡ 6) × (length exact.old ≡ 6) }
+    requires out_len { length out.old ≡ 6 }
     ensures value { result ≡ move_answer (8 * length src.now) (values_read hebap gk (drop (bit_at pos) (bits_of src.now))) }
     ensures out_after { out.new ≡ scalars_after out.old (values_read hebap gk (drop (bit_at pos) (bits_of src.now))) }
 {
     let s = levels::scale_of(hebap, gk);
-    let r = read_each(s, src, pos, 0, &mut *values, &mut *exact);
-    match r {
-        BitMove::Refused(k) => BitMove::Refused(k),
-        BitMove::Done(next) => {
-            copy(&*values, &mut *out);
-            BitMove::Done(next)
-        }
-    }
+    let mut values = [0.0f32; 6];
+    let mut exact = [0i32; 6];
+    let next = read_each(s, src, pos, 0, &mut values, &mut exact)?;
+    out.copy_from_slice(&values);
+    Ok(next)
 }
 
-// The same for any hebap up to 19, with zeros in the scratch buffers.
-fn read_bin(
-    src: &[u8],
-    pos: BitPos,
-    hebap: u8,
-    gk: u8,
-    out: &mut [f32],
-    values: &mut [f32],
-    exact: &mut [i32],
-) -> BitMove
+// The same for any hebap up to 19.
+fn read_bin(src: &[u8], pos: BitPos, hebap: u8, gk: u8, out: &mut [f32]) -> Result<BitPos, Refusal>
     requires hebap_bound { hebap ≤ 19 }
     requires inside { Inside (8 * length src.now) pos }
-    requires out_len { (length out.old ≡ 6) × (values.old ≡ replicate 6 f0) × (length exact.old ≡ 6) }
+    requires out_len { length out.old ≡ 6 }
     ensures value { result ≡ move_answer (8 * length src.now) (bin_read hebap gk (drop (bit_at pos) (bits_of src.now))) }
     ensures out_after { out.new ≡ scalars_after out.old (bin_read hebap gk (drop (bit_at pos) (bits_of src.now))) }
 {
     if hebap < 8 {
-        copy(&*values, &mut *out);
-        return BitMove::Done(pos);
+        out.copy_from_slice(&[0.0; 6]);
+        return Ok(pos);
     }
-    read_values(src, pos, hebap, gk, &mut *out, &mut *values, &mut *exact)
+    read_values(src, pos, hebap, gk, out)
 }
 
 #[tactic(auto, using(crate::proofs::Laws::scalars_mode, crate::proofs::Laws::scalars_hebap, crate::proofs::Laws::scalars_past))]
-fn read_with(
-    src: &[u8],
-    pos: BitPos,
-    hebap: u8,
-    gaqmod: u8,
-    gaqbin: i8,
-    gain_code: u8,
-    out: &mut [f32],
-    values: &mut [f32],
-    exact: &mut [i32],
-) -> BitMove
-    requires { (length out.old ≡ 6) × (values.old ≡ replicate 6 f0) × (length exact.old ≡ 6) }
-    ensures value { result ≡ move_answer (8 * length src.now) (scalars_read src.now (bit_at pos) hebap gaqmod gaqbin gain_code) }
-    ensures out_after { out.new ≡ scalars_after out.old (scalars_read src.now (bit_at pos) hebap gaqmod gaqbin gain_code) }
-{
-    if 3 < gaqmod {
-        return BitMove::Refused(answers::OUT_OF_RANGE);
-    }
-    if 19 < hebap {
-        return BitMove::Refused(answers::HEBAP_ABOVE_19);
-    }
-    if pos.has_bits(src.len(), 1, 0) {
-        let gk = gain_of(gaqbin, gain_code, gaqmod);
-        read_bin(
-            src,
-            pos.advance(1, 0),
-            hebap,
-            gk,
-            &mut *out,
-            &mut *values,
-            &mut *exact,
-        )
-    } else {
-        BitMove::Refused(answers::INPUT_ENDS)
-    }
-}
-
 // Reads the six mantissas of a bin. Refuses with 12 a mode above 3, then with 4 a hebap above 19, then with 8;
 // a refusal leaves the output as it was.
 pub fn read_scalar_aht_mantissas(
@@ -352,21 +260,19 @@ pub fn read_scalar_aht_mantissas(
     gaqbin: i8,
     gain_code: u8,
     out: &mut [f32; 6],
-) -> BitMove
+) -> Result<BitPos, Refusal>
     ensures value { result ≡ move_answer (8 * length src.now) (scalars_read src.now (bit_at pos) hebap gaqmod gaqbin gain_code) }
     ensures out_after { out.new ≡ scalars_after out.old (scalars_read src.now (bit_at pos) hebap gaqmod gaqbin gain_code) }
 {
-    let mut values = [0.0f32; 6];
-    let mut exact = [0i32; 6];
-    read_with(
-        src,
-        pos,
-        hebap,
-        gaqmod,
-        gaqbin,
-        gain_code,
-        &mut *out,
-        &mut values,
-        &mut exact,
-    )
+    if 3 < gaqmod {
+        return Err(Refusal::OutOfRange);
+    }
+    if 19 < hebap {
+        return Err(Refusal::HebapAbove19);
+    }
+    if !pos.has_bits(src.len(), 1, 0) {
+        return Err(Refusal::InputEnds);
+    }
+    let gk = gain_of(gaqbin, gain_code, gaqmod);
+    read_bin(src, pos.advance(1, 0), hebap, gk, out)
 }

@@ -1,7 +1,7 @@
 -- `gains::fill_gaqbin` meets its contract. Assumes nothing.
-use mathlib.Core.Path.{◌≡◌, refl, sym, ap, ◌∙◌}
+use mathlib.Core.Path.{◌≡◌, sym, ap, ◌∙◌}
 use borrow.Author.Tests.{lt-leb}
-use lib.ListN.{length, get_or, length-set}
+use lib.ListN.{get_or}
 use mir.Syntax.{w8}
 use mir.Val.{to_z, of_z}
 use mir.ValLaws.{to_z-of_z}

@@ -1,7 +1,4 @@
 -- `gains::fill_gaqbin` meets its contract. Assumes nothing.
-use Prim.Native.Nat.{◌≤◌}
-use mathlib.Core.Path.{◌≡◌}
-use lib.ListN.{length}
 use Rattle.gains.proofs.Laws.{Marked}
 use Rattle.gains.proofs.fill_gaqbin.Given as goal
 

@@ -1,6 +1,6 @@
 -- `gains::put_words` meets its contract. Assumes nothing.
 use Prim.Native.Nat.{◌+◌, ◌*◌, ◌≤◌}
-use mathlib.Core.Path.{◌≡◌, refl, ap, ◌∙◌}
+use mathlib.Core.Path.{◌≡◌, ap, ◌∙◌}
 use native.Mathlib.Nat.{zero-add}
 use lib.ListN.{length, take, drop}
 use lib.Seq.{drop-drop}
@@ -8,7 +8,6 @@ use Rattle.bits.specs.Bits.{bits_of, number_of, bit_at, pos_of}
 use Rattle.gains.specs.Gains.{word_bits, word_codes, codes_from}
 use Rattle.gains.proofs.Laws.{filled_start, filled_more, filled_as, filled_word, word_bits_le, word_there, word_small}
 use native.Mathlib.Omega.{arith}
-use borrow.Author.Rules.{rules}
 use Rattle.gains.proofs.put_words.Goals as goal
 use Rattle.gains.proofs.put_words.Goals.{In-loop, After-peek}
 

@@ -1,11 +1,11 @@
 -- `scalars::read_fixed` meets its contract. The invariant is Six.SoFar: the codes read so far. Assumes nothing.
 use Prim.Native.Nat.{ℕ, ◌+◌, ◌*◌, ◌≤◌}
-use mathlib.Core.Path.{◌≡◌, refl, ◌∙◌}
+use mathlib.Core.Path.{◌≡◌, ◌∙◌}
 use mathlib.Core.List.{List}
 use native.Mathlib.Omega.{arith}
 use borrow.Author.Rules.{rules}
 use borrow.Author.Tests.{eq-eqb}
-use lib.ListN.{length, drop, length-set}
+use lib.ListN.{length, drop}
 use mir.Syntax.{w32}
 use mir.ValLaws.{to_z-of_z}
 use Rattle.bits.specs.Bits.{bits_of, bit_at, pos_of}
@@ -49,7 +49,7 @@ loop-j-init c =
     let a = c.args in
     let w = c.requires.bit_bound in
     let z : bit_at a.pos + 0 ≡ bit_at a.pos = omega arith in
-    (none_yet a.s.hebap a.s.gk a.at a.src.now (bit_at a.pos) a.values.now a.exact.now (pos_of (bit_at a.pos + 0)) (at_pos (bit_at a.pos + 0) ∙ z) (omega arith, omega arith), omega arith, refl, refl)
+    (none_yet a.s.hebap a.s.gk a.at a.src.now (bit_at a.pos) a.values.now a.exact.now (pos_of (bit_at a.pos + 0)) (at_pos (bit_at a.pos + 0) ∙ z) (omega arith, omega arith), omega arith)
 
 pub peek_word-u-requires : goal.peek_word-u-requires
 peek_word-u-requires c =
@@ -76,8 +76,6 @@ loop-j-preserved c =
     let z = to_z-of_z w32 c.fixed_exact.result (record { sfits = c.fixed_exact.type_inv }) ∙ c.fixed_exact.ensures in (
       turn c.loop-j.d c.args.s.large c.loop-j.invariant.0 w.0 w.1 (omega arith) (Code.Large c.peek_word-u.result) (read_here d) (room d) _ _ c.fixed_value.ensures z,
       omega (arith, c.loop-j.invariant.1),
-      rw length-set c.loop-j.invariant.2,
-      rw length-set c.loop-j.invariant.3,
     )
 
 pub returns : goal.returns

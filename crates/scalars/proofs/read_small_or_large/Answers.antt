@@ -19,7 +19,7 @@ loop-j-init c = let a = c.args in
     let w = c.requires.bit_bound in
     let z : bit_at a.pos + 0 ≡ bit_at a.pos = omega arith in
     let i : Inside (8 * length a.src.now) (pos_of (bit_at a.pos + 0)) = (omega arith, omega arith) in
-    (none_yet a.s.hebap a.s.gk a.at a.src.now (bit_at a.pos) a.values.now a.exact.now (pos_of (bit_at a.pos + 0)) (at_pos (bit_at a.pos + 0) ∙ z) i, omega arith, refl, refl)
+    (none_yet a.s.hebap a.s.gk a.at a.src.now (bit_at a.pos) a.values.now a.exact.now (pos_of (bit_at a.pos + 0)) (at_pos (bit_at a.pos + 0) ∙ z) i, omega arith)
 
 pub advance_bits-p-requires : goal.advance_bits-p-requires
 advance_bits-p-requires c = let w = c.requires.bit_bound in let i = c.loop-j.invariant.1 in search rules
@@ -46,7 +46,7 @@ overflow_add-at c = let w = c.requires.at_in_bounds in search rules
 
 pub put_values-requires : goal.put_values-requires
 put_values-requires c = let w = c.requires.at_in_bounds in
-    record { scale = c.requires.scale; accepted = code_accepted c.args.s.hebap c.args.s.gk _ _ _ (code_is (goal.at.put_values-requires c).After-code_ahead-c); at_in_bounds = (omega (arith, c.loop-j.invariant.2, c.loop-j-test.true), omega (arith, c.loop-j.invariant.3, c.loop-j-test.true)) }
+    record { scale = c.requires.scale; accepted = code_accepted c.args.s.hebap c.args.s.gk _ _ _ (code_is (goal.at.put_values-requires c).After-code_ahead-c); at_in_bounds = (omega arith, omega arith) }
 
 pub overflow_add-d : goal.overflow_add-d
 overflow_add-d c = let i = c.loop-j.invariant.1 in
@@ -60,8 +60,6 @@ loop-j-preserved c = let a = c.args in
           (turn c.loop-j.d c.code_ahead-c.result.bits c.loop-j.invariant.0 w.0 w.1 (omega arith) c.code_ahead-c.result.code (code_is (goal.at.loop-j-preserved c).After-code_ahead-c) (room (goal.at.loop-j-preserved c).After-code_ahead-c) _ _ refl refl) _ _
           c.put_values.ensures.values_after c.put_values.ensures.exact_after,
       omega (arith, c.loop-j.invariant.1, c.code_ahead-c.ensures.bits_bound),
-      omega arith,
-      omega arith,
     )
 
 pub advance_bits-requires : goal.advance_bits-requires
