@@ -2,13 +2,14 @@
 use Prim.Native.Nat.{ℕ, ◌≤◌}
 use mathlib.Core.Path.{◌≡◌, refl, sym, ap, ◌∙◌}
 use mathlib.Core.List.{[], ◌∷◌}
+use mathlib.Core.Bool.{Bool, true, false, cond}
 use lib.ListN.{get_or}
 use native.Mathlib.Omega.{arith}
-use Rattle.std.specs.Prelude.{Result, Ok, Err, IsErr, IsErrAnd}
+use Rattle.std.specs.Prelude.{Option, None, Some, Result, Ok, Err, IsErr, IsErrAnd}
 use Rattle.std.proofs.lemmas.Result.{err_from_is_err_and}
 use Rattle.answers.specs.declared.Refusal.{Refusal}
 use Rattle.answers.specs.declared.Refusal.TheVariants.{StartAboveEnd, EndAbove256, TooShort, HebapAbove19, Component, PlanMisfit, OutputFull, InputEnds, GroupWord, UnusedCode, NoQuantiser, OutOfRange, Text}
-use Rattle.answers.specs.Causes.{number}
+use Rattle.answers.specs.Causes.{number, cause_number}
 use Rattle.answers.specs.Answers.{answer_number}
 
 -- a refusal has a number
@@ -61,3 +62,8 @@ same_refusal j k e = sym (at_number j) ∙ ap by_number e ∙ at_number k
 -- ---- what the exit of a `?` returns: the refusal that it met
 pub passed_on : {A : Type 0} {r : Result A Refusal} {k : Refusal} → IsErr r × IsErrAnd r (λ j. j ≡ k) → r ≡ Err k
 passed_on {r = r} e = let p = err_from_is_err_and r e.1 in p.1 ∙ ap Err p.2
+
+-- ---- causes that do not hold
+pub none_of : (t : Bool) (k : Refusal) (d : Option Refusal) → cond t (Some k) d ≡ None → (t ≡ false) × (d ≡ None)
+none_of true k d e = absurd (let z : ◌≡◌ {A = ℕ} (number k) 0 = ap cause_number e in let n = numbered k in omega arith)
+none_of false k d e = (refl, e)

@@ -31,6 +31,11 @@ number OutOfRange = 12
 -- the desk's text malformed
 number Text = 13
 
+-- the number of a cause that may not hold, 0 where it does not
+abbrev pub cause_number : Option Refusal → ℕ
+cause_number None = 0
+cause_number (Some k) = number k
+
 -- the first of two causes, each of which may not hold
 abbrev pub first_of : Option Refusal → Option Refusal → Option Refusal
 first_of None d = d

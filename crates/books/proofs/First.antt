@@ -25,7 +25,7 @@ use Rattle.levels.proofs.Range.{each_accepted}
 use Rattle.levels.proofs.Within.{AtMost, value_within, round_most, add_fraction, mul_fraction, sub_within}
 use Rattle.books.specs.Books.{term_of, sum_to, distance_of, search_from, nearest_in, FirstLeast, search_of, vq_search, vq_search_up_to}
 use Rattle.books.proofs.Quotients.{positive_exact, negative_exact}
-use Rattle.answers.specs.declared.SizeResult.TheVariants.{Value}
+use Rattle.std.specs.Prelude.{Ok}
 
 -- ---- no distance is a NaN or infinite: each step of its sum has a bound
 -- a fraction of a book is 1 at most in size
@@ -214,6 +214,6 @@ pub search_only : (h : ℕ) (x : List Float) → 1 ≤ h → h ≤ 7 → length 
 search_only h x l u s a k f = first_unique x (book h) (2 ^ vq_bits h) k (search_of h x) f (search_first h x l u s a)
 
 -- and it is the answer
-pub search_answer : (h : ℕ) (x : List Float) → 1 ≤ h → h ≤ 7 → some_too_large x ≡ false → vq_search h x ≡ Value (search_of h x)
+pub search_answer : (h : ℕ) (x : List Float) → 1 ≤ h → h ≤ 7 → some_too_large x ≡ false → vq_search h x ≡ Ok (search_of h x)
 unfolding vq_search_up_to
 search_answer h x l u a = rw (le-leb 1 h l, le-leb h 7 u, a)

@@ -1,13 +1,13 @@
 -- The vector quantiser: looking a vector up, and the search for the nearest one.
 -- docs/FORMAT.md, Books; ATSC A/52 Annex E, 3.4.4.1, Tables E4.1 to E4.7.
-use Rattle.std.specs.Prelude.{ℕ, zero, suc, ◌+◌, ◌*◌, ◌%◌, ◌^◌, ◌<◌, ◌≡◌, Bool, true, false, cond, ◌&&◌, List, [], ◌∷◌, leb, ℤ, pos, ◌*ℤ◌, get_or, replicate, Float}
+use Rattle.std.specs.Prelude.{ℕ, zero, suc, ◌+◌, ◌*◌, ◌%◌, ◌^◌, ◌<◌, ◌≡◌, Bool, true, false, cond, ◌&&◌, List, [], ◌∷◌, leb, ℤ, pos, ◌*ℤ◌, get_or, replicate, Float, Result, Ok, Err}
 use Rattle.std.specs.Float.{nan, inf, binary32}
 use Rattle.std.specs.Float.Ieee.{add, sub, mul, lt}
 use Rattle.tables.specs.Tables.{book, vq_bits}
 use Rattle.levels.specs.Component.{some_beyond, largest_size}
 use Rattle.levels.specs.Value.{f0, q15}
-use Rattle.answers.specs.declared.SizeResult.{SizeResult}
-use Rattle.answers.specs.Causes as cause
+use Rattle.answers.specs.declared.Refusal.{Refusal}
+use Rattle.answers.specs.declared.Refusal.TheVariants.{Component}
 
 -- hebap 1 to 7
 abbrev pub has_book : ℕ → Bool
@@ -75,11 +75,11 @@ unfoldable pub search_of : ℕ → List Float → ℕ
 search_of h x = nearest_in (book h) (2 ^ vq_bits h) x
 
 -- where components up to a limit are accepted
-unfoldable pub vq_search_up_to : ℕ → ℕ → List Float → SizeResult
+unfoldable pub vq_search_up_to : ℕ → ℕ → List Float → Result ℕ Refusal
 vq_search_up_to limit h x =
     cond (has_book h)
-    (cond (some_beyond limit x) (SizeResult.Refused cause.component) (SizeResult.Value (search_of h x)))
-    (SizeResult.Value 0)
+    (cond (some_beyond limit x) (Err Component) (Ok (search_of h x)))
+    (Ok 0)
 
-abbrev pub vq_search : ℕ → List Float → SizeResult
+abbrev pub vq_search : ℕ → List Float → Result ℕ Refusal
 vq_search = vq_search_up_to largest_size

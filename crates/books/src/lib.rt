@@ -16,7 +16,7 @@ ghost use Rattle.books.specs.Work.{NoNans, nearer_of, distance_by};
 mod consts;
 mod fractions;
 
-use answers::SizeResult;
+use answers::Refusal;
 
 // The nearest vector so far and its distance.
 #[derive(Clone, Copy)]
@@ -385,14 +385,14 @@ fn search(hebap: u8, x: &[f32]) -> usize
 }
 
 // The first index of least distance from x in the book of the hebap, 0 where it has none. Refusal 5, where it has one.
-pub fn vq_search(hebap: u8, x: &[f32; 6]) -> SizeResult
+pub fn vq_search(hebap: u8, x: &[f32; 6]) -> Result<usize, Refusal>
     ensures { result ≡ vq_search hebap x.now }
 {
     if vectors_in(hebap) == 0 {
-        return SizeResult::Value(0);
+        return Ok(0);
     }
     if levels::any_too_large(x) {
-        return SizeResult::Refused(answers::COMPONENT);
+        return Err(Refusal::Component);
     }
-    SizeResult::Value(search(hebap, x))
+    Ok(search(hebap, x))
 }

@@ -8,6 +8,8 @@ use native.Mathlib.Omega.{arith}
 use borrow.Author.Tests.{le-leb, lt-leb, leb-true, leb-false, eqb-false, ne_eqb}
 use lib.Dec.{eqb, leb}
 use lib.ListN.{length, get_or}
+use Rattle.answers.specs.declared.Refusal.{Refusal}
+use Rattle.answers.specs.declared.Refusal.TheVariants.{InputEnds, GroupWord, UnusedCode}
 use Rattle.bits.specs.Bits.{bits_n}
 use Rattle.bits.specs.Format.{Got, got, refused, and_then, number}
 use Rattle.bits.proofs.Lawful.{number_lawful}
@@ -20,22 +22,22 @@ use Rattle.bits.proofs.Refusals.{Eight, number_eights}
 -- ---- one word
 -- a word of five bits is not there, is above 26, or is fine
 pub data WordCase (bs : List Bool) : Type 0 where
-  short : grpgain.dec bs ≡ refused 8 → WordCase bs
-  above : (w : ℕ) (rest : List Bool) → bs ≡ bits_n 5 w ++ rest → w < 32 → 26 < w → grpgain.dec bs ≡ refused 9 → WordCase bs
+  short : grpgain.dec bs ≡ refused InputEnds → WordCase bs
+  above : (w : ℕ) (rest : List Bool) → bs ≡ bits_n 5 w ++ rest → w < 32 → 26 < w → grpgain.dec bs ≡ refused GroupWord → WordCase bs
   fine : (w : ℕ) (rest : List Bool) → bs ≡ bits_n 5 w ++ rest → w ≤ 26 → grpgain.dec bs ≡ got w rest → WordCase bs
 
 word_case : (bs : List Bool) → WordCase bs
 unfolding number
 word_case bs = go ((number 5).dec bs) refl (number_eights 5 bs)
   where
-    test : (w : ℕ) (rest : List Bool) (t : Bool) → leb w 26 ≡ t → grpgain.dec bs ≡ cond t (got w rest) (refused 9) → (bs ≡ bits_n 5 w ++ rest) × (w < 2 ^ 5) → WordCase bs
+    test : (w : ℕ) (rest : List Bool) (t : Bool) → leb w 26 ≡ t → grpgain.dec bs ≡ cond t (got w rest) (refused GroupWord) → (bs ≡ bits_n 5 w ++ rest) × (w < 2 ^ 5) → WordCase bs
     test w rest true l e s = fine w rest s.0 (leb-true w 26 l) e
     test w rest false l e s = above w rest s.0 (let u = s.1 in omega arith) (leb-false w 26 l) e
 
     go : (t : Got ℕ) → (number 5).dec bs ≡ t → (Eight t) → WordCase bs
     go (got w rest) e q =
-        test w rest (leb w 26) refl (ap (λ (t : Got ℕ). and_then t (λ a r. cond (leb a 26) (got a r) (refused 9))) e) ((number_lawful 5).sole bs rest w e)
-    go (refused k) e q = short (ap (λ (t : Got ℕ). and_then t (λ a r. cond (leb a 26) (got a r) (refused 9))) e ∙ ap refused q)
+        test w rest (leb w 26) refl (ap (λ (t : Got ℕ). and_then t (λ a r. cond (leb a 26) (got a r) (refused GroupWord))) e) ((number_lawful 5).sole bs rest w e)
+    go (refused k) e q = short (ap (λ (t : Got ℕ). and_then t (λ a r. cond (leb a 26) (got a r) (refused GroupWord))) e ∙ ap refused q)
 
 -- ---- words up to one
 -- the first
@@ -57,7 +59,7 @@ one_more_lem w rest s l a = record {
 -- ---- words of n gains: why they are refused
 abbrev pub Why : ℕ → List Bool → Got (List ℕ) → Type 0
 Why n bs (got gs rest) = Unit {0}
-Why n bs (refused k) = (k ≡ 8) ⊎ (((k ≡ 9) × WordAbove26 n bs) ⊎ ((k ≡ 10) × PaddingNotZero n bs))
+Why n bs (refused k) = (k ≡ InputEnds) ⊎ (((k ≡ GroupWord) × WordAbove26 n bs) ⊎ ((k ≡ UnusedCode) × PaddingNotZero n bs))
 
 -- a last word that is not full: code is missing, and not 0
 record Missing (n w : ℕ) : Type 0 where
@@ -78,13 +80,13 @@ two_missing w h = record { code = 2; third = omega arith; missing = omega arith;
 
 module _ (n : ℕ) (one : sections 3 n ≡ 1) (ok : ℕ → Bool) (to : ℕ → List ℕ) where
   abbrev last_word : Got ℕ → Got (List ℕ)
-  last_word t = and_then (and_then t (λ w rest. cond (ok w) (got w rest) (refused 10))) (λ w rest. got (to w) rest)
+  last_word t = and_then (and_then t (λ w rest. cond (ok w) (got w rest) (refused UnusedCode))) (λ w rest. got (to w) rest)
 
   last_why : ((w : ℕ) → ok w ≡ false → Missing n w) → (bs : List Bool) → Why n bs (last_word (grpgain.dec bs))
   unfolding first_word
   last_why miss bs = go (word_case bs)
     where
-      test : (w : ℕ) (rest : List Bool) → bs ≡ bits_n 5 w ++ rest → w ≤ 26 → (t : Bool) → ok w ≡ t → Why n bs (and_then (cond t (got w rest) (refused 10)) (λ w rest. got (to w) rest))
+      test : (w : ℕ) (rest : List Bool) → bs ≡ bits_n 5 w ++ rest → w ≤ 26 → (t : Bool) → ok w ≡ t → Why n bs (and_then (cond t (got w rest) (refused UnusedCode)) (λ w rest. got (to w) rest))
       test w rest s l true e = tt
       test w rest s l false e =
           let m = miss w e in
@@ -167,20 +169,20 @@ groups_why (suc (suc zero)) bs = last_why 2 refl two_gains (λ w. first w ∷ se
 groups_why (suc (suc (suc n))) bs = full_why n (groups_why n) bs
 
 -- ---- and where they are
-word_refused : (w : ℕ) (rest : List Bool) → w < 32 → 26 < w → grpgain.dec (bits_n 5 w ++ rest) ≡ refused 9
+word_refused : (w : ℕ) (rest : List Bool) → w < 32 → 26 < w → grpgain.dec (bits_n 5 w ++ rest) ≡ refused GroupWord
 unfolding number
 word_refused w rest u l =
-    ap (λ (t : Got ℕ). and_then t (λ a r. cond (leb a 26) (got a r) (refused 9))) ((number_lawful 5).back w rest (omega arith))
-    ∙ ap (λ (t : Bool). cond t (got w rest) (refused 9)) (lt-leb w 26 l)
+    ap (λ (t : Got ℕ). and_then t (λ a r. cond (leb a 26) (got a r) (refused GroupWord))) ((number_lawful 5).back w rest (omega arith))
+    ∙ ap (λ (t : Bool). cond t (got w rest) (refused GroupWord)) (lt-leb w 26 l)
 
 word_read : (w : ℕ) (rest : List Bool) → w ≤ 26 → grpgain.dec (bits_n 5 w ++ rest) ≡ got w rest
 unfolding number
 word_read w rest l =
-    ap (λ (t : Got ℕ). and_then t (λ a r. cond (leb a 26) (got a r) (refused 9))) ((number_lawful 5).back w rest (omega arith))
-    ∙ ap (λ (t : Bool). cond t (got w rest) (refused 9)) (le-leb w 26 l)
+    ap (λ (t : Got ℕ). and_then t (λ a r. cond (leb a 26) (got a r) (refused GroupWord))) ((number_lawful 5).back w rest (omega arith))
+    ∙ ap (λ (t : Bool). cond t (got w rest) (refused GroupWord)) (le-leb w 26 l)
 
 -- the word u is read, and the words behind it refused
-behind_refused : (n u k : ℕ) (us : List ℕ) (l : List Bool) → u ≤ 26 → (group_words n).dec (words_bits us ++ l) ≡ refused k
+behind_refused : (n u : ℕ) (k : Refusal) (us : List ℕ) (l : List Bool) → u ≤ 26 → (group_words n).dec (words_bits us ++ l) ≡ refused k
     → full_word n (grpgain.dec ((bits_n 5 u ++ words_bits us) ++ l)) ≡ refused k
 behind_refused n u k us l f e =
     ap (λ (t : List Bool). full_word n (grpgain.dec t)) (append_assoc (bits_n 5 u) (words_bits us) l)
@@ -188,7 +190,7 @@ behind_refused n u k us l f e =
     ∙ ap (behind_word n u) e
 
 above_back : (n : ℕ) (ws : List ℕ) (w : ℕ) (rest : List Bool) → Fine ws → 26 < w → w < 32 → length ws < sections 3 n
-    → (group_words n).dec (words_bits ws ++ (bits_n 5 w ++ rest)) ≡ refused 9
+    → (group_words n).dec (words_bits ws ++ (bits_n 5 w ++ rest)) ≡ refused GroupWord
 unfolding group_words words_bits sections
 above_back zero ws w rest f l u d = absurd (omega arith)
 above_back (suc zero) [] w rest f l u d = ap (last_word 1 refl one_gain (λ w. first w ∷ [])) (word_refused w rest u l)
@@ -196,7 +198,7 @@ above_back (suc zero) (v ∷ ws) w rest f l u d = absurd (omega arith)
 above_back (suc (suc zero)) [] w rest f l u d = ap (last_word 2 refl two_gains (λ w. first w ∷ second w ∷ [])) (word_refused w rest u l)
 above_back (suc (suc zero)) (v ∷ ws) w rest f l u d = absurd (omega arith)
 above_back (suc (suc (suc n))) [] w rest f l u d = ap (full_word n) (word_refused w rest u l)
-above_back (suc (suc (suc n))) (v ∷ ws) w rest f l u d = behind_refused n v 9 ws (bits_n 5 w ++ rest) f.0 (above_back n ws w rest f.1 l u (omega arith))
+above_back (suc (suc (suc n))) (v ∷ ws) w rest f l u d = behind_refused n v GroupWord ws (bits_n 5 w ++ rest) f.0 (above_back n ws w rest f.1 l u (omega arith))
 
 one_padded : (w code : ℕ) → code < 3 → 1 ≤ code → (get_or (word_codes 3 w) code 0 ≡ 0 → ⊥) → one_gain w ≡ false
 one_padded w zero l m z = absurd (omega arith)
@@ -215,12 +217,12 @@ two_padded w (suc (suc zero)) l m z = let y : third_code w ≡ 0 → ⊥ = rw (g
 two_padded w (suc (suc (suc code))) l m z = absurd (omega arith)
 
 last_refused : (n : ℕ) (one : sections 3 n ≡ 1) (ok : ℕ → Bool) (to : ℕ → List ℕ) (w : ℕ) (rest : List Bool) → w ≤ 26 → ok w ≡ false
-    → last_word n one ok to (grpgain.dec (bits_n 5 w ++ rest)) ≡ refused 10
+    → last_word n one ok to (grpgain.dec (bits_n 5 w ++ rest)) ≡ refused UnusedCode
 last_refused n one ok to w rest l e =
-    ap (last_word n one ok to) (word_read w rest l) ∙ ap (λ (t : Bool). and_then (cond t (got w rest) (refused 10)) (λ w rest. got (to w) rest)) e
+    ap (last_word n one ok to) (word_read w rest l) ∙ ap (λ (t : Bool). and_then (cond t (got w rest) (refused UnusedCode)) (λ w rest. got (to w) rest)) e
 
 padding_back : (n : ℕ) (ws : List ℕ) (w code : ℕ) (rest : List Bool) → Fine ws → w ≤ 26 → suc (length ws) ≡ sections 3 n → code < 3 → n ≤ 3 * length ws + code
-    → (get_or (word_codes 3 w) code 0 ≡ 0 → ⊥) → (group_words n).dec (words_bits ws ++ (bits_n 5 w ++ rest)) ≡ refused 10
+    → (get_or (word_codes 3 w) code 0 ≡ 0 → ⊥) → (group_words n).dec (words_bits ws ++ (bits_n 5 w ++ rest)) ≡ refused UnusedCode
 unfolding group_words words_bits sections
 padding_back zero ws w code rest f l d c m z = absurd (omega arith)
 padding_back (suc zero) [] w code rest f l d c m z = last_refused 1 refl one_gain (λ w. first w ∷ []) w rest l (one_padded w code c (omega arith) z)
@@ -229,14 +231,14 @@ padding_back (suc (suc zero)) [] w code rest f l d c m z = last_refused 2 refl t
 padding_back (suc (suc zero)) (v ∷ ws) w code rest f l d c m z = absurd (omega arith)
 padding_back (suc (suc (suc n))) [] w code rest f l d c m z = absurd (omega arith)
 padding_back (suc (suc (suc n))) (v ∷ ws) w code rest f l d c m z =
-    behind_refused n v 10 ws (bits_n 5 w ++ rest) f.0 (padding_back n ws w code rest f.1 l (omega arith) c (omega arith) z)
+    behind_refused n v UnusedCode ws (bits_n 5 w ++ rest) f.0 (padding_back n ws w code rest f.1 l (omega arith) c (omega arith) z)
 
-pub word_above : (n : ℕ) (bs : List Bool) → WordAbove26 n bs → (group_words n).dec bs ≡ refused 9
+pub word_above : (n : ℕ) (bs : List Bool) → WordAbove26 n bs → (group_words n).dec bs ≡ refused GroupWord
 word_above n bs a =
     let w = a.words in
     ap (group_words n).dec w.bits ∙ above_back n w.before w.word w.behind w.fine a.above a.five a.due
 
-pub padding_there : (n : ℕ) (bs : List Bool) → PaddingNotZero n bs → (group_words n).dec bs ≡ refused 10
+pub padding_there : (n : ℕ) (bs : List Bool) → PaddingNotZero n bs → (group_words n).dec bs ≡ refused UnusedCode
 padding_there n bs a =
     let w = a.words in
     ap (group_words n).dec w.bits ∙ padding_back n w.before w.word a.code w.behind w.fine a.most a.last a.third a.missing a.not_zero

@@ -8,6 +8,7 @@ use native.Mathlib.Omega.{arith}
 use lib.ListN.{replicate, drop}
 use lib.Dec.{leb, eqb, T, leb→le, eqb→eq}
 use borrow.Author.Tests.{eqb-true, eqb-false}
+use Rattle.answers.specs.declared.Refusal.TheVariants.{GroupWord, UnusedCode}
 use Rattle.bits.specs.Format.{Format, number, only, both, tested, each}
 use Rattle.bits.proofs.Lawful.{Lawful, number_lawful, only_lawful, both_lawful, tested_lawful, shown_lawful, each_lawful}
 use Rattle.tables.specs.Tables.{mant_bits, vq_bits}
@@ -30,7 +31,7 @@ unfolding number
 gain_bit_lawful mode m = shown_lawful (number 1) (λ c. gain_value c mode) (λ g. gain_code g mode) (number_lawful 1) (bit_kept mode m)
 
 pub group_word_lawful : Lawful grpgain
-group_word_lawful = tested_lawful (number 5) (λ w. leb w 26) 9 (number_lawful 5)
+group_word_lawful = tested_lawful (number 5) (λ w. leb w 26) GroupWord (number_lawful 5)
 
 code_kept : (c : ℕ) → c ≤ 2 → gain_code (gain_value c 3) 3 ≡ c
 unfolding gain_value
@@ -54,14 +55,14 @@ both_zero a b h = go (eqb a 0) refl h
     go true e k = (eqb-true a 0 e, eqb→eq b 0 k)
     go false e k = absurd k
 
-one_kept : (w : ℕ) → (tested grpgain one_gain 10).Ok w → packed (first w ∷ []) ≡ w
+one_kept : (w : ℕ) → (tested grpgain one_gain UnusedCode).Ok w → packed (first w ∷ []) ≡ w
 one_kept w h =
     let s = three_codes w h.0.1 in
     let m = word_made w h.0.1 in
     let z = both_zero (second_code w) (third_code w) h.1 in
     rw (code_kept (first_code w) s.0) (omega arith)
 
-two_kept : (w : ℕ) → (tested grpgain two_gains 10).Ok w → packed (first w ∷ second w ∷ []) ≡ w
+two_kept : (w : ℕ) → (tested grpgain two_gains UnusedCode).Ok w → packed (first w ∷ second w ∷ []) ≡ w
 two_kept w h =
     let s = three_codes w h.0.1 in
     let m = word_made w h.0.1 in
@@ -77,11 +78,11 @@ pub group_words_lawful : (n : ℕ) → Lawful (group_words n)
 unfolding group_words
 group_words_lawful zero = only_lawful []
 group_words_lawful (suc zero) =
-    shown_lawful (tested grpgain one_gain 10) (λ w. first w ∷ []) packed
-    (tested_lawful grpgain one_gain 10 group_word_lawful) one_kept
+    shown_lawful (tested grpgain one_gain UnusedCode) (λ w. first w ∷ []) packed
+    (tested_lawful grpgain one_gain UnusedCode group_word_lawful) one_kept
 group_words_lawful (suc (suc zero)) =
-    shown_lawful (tested grpgain two_gains 10) (λ w. first w ∷ second w ∷ []) packed
-    (tested_lawful grpgain two_gains 10 group_word_lawful) two_kept
+    shown_lawful (tested grpgain two_gains UnusedCode) (λ w. first w ∷ second w ∷ []) packed
+    (tested_lawful grpgain two_gains UnusedCode group_word_lawful) two_kept
 group_words_lawful (suc (suc (suc n))) =
     shown_lawful (both grpgain (λ w. group_words n)) (λ p. first p.0 ∷ second p.0 ∷ third p.0 ∷ p.1) (λ gs. (packed gs, drop 3 gs))
     (both_lawful grpgain (λ w. group_words n) group_word_lawful (λ w. group_words_lawful n))

@@ -8,6 +8,7 @@ use native.Mathlib.Nat.{mul-one, one-mul, mul-suc, le_trans, le_of_eq}
 use native.Mathlib.Omega.{arith}
 use lib.Dec.{eqb, leb}
 use lib.ListN.{length, length-append, drop, replicate}
+use Rattle.answers.specs.declared.Refusal.TheVariants.{GroupWord}
 use Rattle.bits.specs.Format.{Format, number, only, each, each_Ok, each_enc}
 use Rattle.bits.proofs.Laws.{length_bits_n}
 use Rattle.bits.proofs.Sized.{Sized, number_sized, both_sized, tested_sized, each_sized, sizes_same}
@@ -30,7 +31,7 @@ use Rattle.channel.proofs.Same.{Scalar, by_bin}
 
 -- ---- gain words
 group_word_sized : Sized grpgain (λ w. 5)
-group_word_sized = tested_sized (number 5) (λ w. leb w 26) 9 (λ w. 5) (number_sized 5)
+group_word_sized = tested_sized (number 5) (λ w. leb w 26) GroupWord (λ w. 5) (number_sized 5)
 
 group_words_sized : (n : ℕ) → Sized (group_words n) (λ gs. 5 * ((n + 2) / 3))
 unfolding group_words

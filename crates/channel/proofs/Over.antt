@@ -103,10 +103,6 @@ pub one_small : (b : Bool) → cond {A = ℕ} b 1 0 ≤ 1
 one_small true = omega arith
 one_small false = omega arith
 
-pub none_of : (t : Bool) (n b : ℕ) → cond t (suc n) b ≡ 0 → (t ≡ false) × (b ≡ 0)
-none_of true n b h = absurd (let z : suc n ≡ 0 = h in omega arith)
-none_of false n b h = (refl, h)
-
 -- ---- lists over places
 pub length_from : {A : Type 0} (f : ℕ → A) (k n : ℕ) → length (from f k n) ≡ n
 unfolding from

@@ -7,6 +7,9 @@ use mathlib.Core.Logic.{◌⊎◌, inl, inr}
 use native.Mathlib.Omega.{arith}
 use lib.Dec.{eqb, leb}
 use lib.ListN.{drop, replicate}
+use Rattle.answers.specs.Causes.{number as number_of_cause}
+use Rattle.answers.specs.declared.Refusal.{Refusal}
+use Rattle.answers.specs.declared.Refusal.TheVariants.{InputEnds, GroupWord, UnusedCode}
 use Rattle.bits.specs.Bits.{bits_n}
 use Rattle.bits.specs.Format.{Got, got, refused, and_then, Format, number, only, both, tested, shown, each}
 use Rattle.bits.proofs.Lawful.{number_lawful}
@@ -57,11 +60,21 @@ module _ (P : (A : Type 0) → Format A → Type 0) (rule : Rule P) where
   bits_rule mode n m =
       rule.eachs (λ (k : ℕ). gain_bit mode) (λ k. gain_bit_lawful mode m) (λ k. rule.showns (number 1) (λ c. gain_value c mode) (λ g. gain_code g mode) (rule.numbers 1)) (replicate n 0)
 
+-- ---- 9 and 10 are no 8
+not_ends_9 : GroupWord ≡ InputEnds → ⊥
+not_ends_9 e = let z : ◌≡◌ {A = ℕ} 9 8 = ap number_of_cause e in omega arith
+
+not_ends_10 : UnusedCode ≡ InputEnds → ⊥
+not_ends_10 e = let z : ◌≡◌ {A = ℕ} 10 8 = ap number_of_cause e in omega arith
+
+same : {A : Type 0} {j k : Refusal} → ◌≡◌ {A = Got A} (refused j) (refused k) → j ≡ k
+same e = cc
+
 -- ---- gain words
 -- behind the mode, the gain words and the items; the words refuse with 9 and 10 in mode 3 alone
 abbrev GainsWhy : ℕ → ℕ → List Bool → Got (List ℕ) → Type 0
 GainsWhy mode n bs (got gs rest) = Unit {0}
-GainsWhy mode n bs (refused k) = (k ≡ 8) ⊎ ((mode ≡ 3) × (((k ≡ 9) × WordAbove26 n bs) ⊎ ((k ≡ 10) × PaddingNotZero n bs)))
+GainsWhy mode n bs (refused k) = (k ≡ InputEnds) ⊎ ((mode ≡ 3) × (((k ≡ GroupWord) × WordAbove26 n bs) ⊎ ((k ≡ UnusedCode) × PaddingNotZero n bs)))
 
 gains_why : (mode n : ℕ) (bs : List Bool) → GainsWhy mode n bs ((gain_words mode n).dec bs)
 gains_why mode n bs = by_mode (λ F. GainsWhy mode n bs (F.dec bs)) mode n bits words (λ p q r. tt)
@@ -82,14 +95,14 @@ gains_why mode n bs = by_mode (λ F. GainsWhy mode n bs (F.dec bs)) mode n bits 
     words e = three e ((group_words n).dec bs) (groups_why n bs)
 
 word_ends : Ends grpgain
-word_ends = tested_ends (number 5) (λ w. leb w 26) 9 (λ e. omega arith) (number_ends 5)
+word_ends = tested_ends (number 5) (λ w. leb w 26) GroupWord not_ends_9 (number_ends 5)
 
 groups_end : (n : ℕ) → Ends (group_words n)
 unfolding group_words
 groups_end zero = only_ends []
-groups_end (suc zero) = shown_ends (tested grpgain one_gain 10) (λ w. first w ∷ []) packed (tested_ends grpgain one_gain 10 (λ e. omega arith) word_ends)
+groups_end (suc zero) = shown_ends (tested grpgain one_gain UnusedCode) (λ w. first w ∷ []) packed (tested_ends grpgain one_gain UnusedCode not_ends_10 word_ends)
 groups_end (suc (suc zero)) =
-    shown_ends (tested grpgain two_gains 10) (λ w. first w ∷ second w ∷ []) packed (tested_ends grpgain two_gains 10 (λ e. omega arith) word_ends)
+    shown_ends (tested grpgain two_gains UnusedCode) (λ w. first w ∷ second w ∷ []) packed (tested_ends grpgain two_gains UnusedCode not_ends_10 word_ends)
 groups_end (suc (suc (suc n))) =
     shown_ends (both grpgain (λ w. group_words n)) (λ p. first p.0 ∷ second p.0 ∷ third p.0 ∷ p.1) (λ gs. (packed gs, drop 3 gs))
     (both_ends grpgain (λ w. group_words n) group_word_lawful word_ends (λ w. groups_end n))
@@ -111,7 +124,7 @@ module _ (row : List ℕ) (start end : ℕ) where
 
   abbrev pub FieldWhy : List Bool → Got Channel → Type 0
   FieldWhy bs (got c rest) = Unit {0}
-  FieldWhy bs (refused k) = (k ≡ 8) ⊎ (((k ≡ 9) × WordThere row start end bs) ⊎ ((k ≡ 10) × PaddingThere row start end bs))
+  FieldWhy bs (refused k) = (k ≡ InputEnds) ⊎ (((k ≡ GroupWord) × WordThere row start end bs) ⊎ ((k ≡ UnusedCode) × PaddingThere row start end bs))
 
   abbrev with_items : ℕ → Got (List ℕ) → Got (List ℕ × List Item)
   with_items mode t = and_then {B = List ℕ × List Item} t (λ gs r. and_then {B = List ℕ × List Item} ((each (item lenient) (bins_of mode gs row start end)).dec r) (λ xs r'. got (gs, xs) r'))
@@ -147,7 +160,7 @@ module _ (row : List ℕ) (start end : ℕ) where
       go (refused k) e y = subst (λ (t : Got ℕ). FieldWhy bs (whole t)) (sym e) (inl y)
 
   -- ---- and the other way round
-  mode_3 : (bs rest : List Bool) (k : ℕ) → bs ≡ bits_n 2 3 ++ rest → (group_words (count 3)).dec rest ≡ refused k → (field row start end).dec bs ≡ refused k
+  mode_3 : (bs rest : List Bool) (k : Refusal) → bs ≡ bits_n 2 3 ++ rest → (group_words (count 3)).dec rest ≡ refused k → (field row start end).dec bs ≡ refused k
   unfolding number gain_words
   mode_3 bs rest k s e =
       let D : ℕ → List Bool → Got (ℕ × (List ℕ × List Item)) = λ mode r. and_then {B = ℕ × (List ℕ × List Item)} ((behind_mode lenient row start end mode).dec r) (λ b r'. got (mode, b) r') in
@@ -155,11 +168,11 @@ module _ (row : List ℕ) (start end : ℕ) where
       ∙ ap (λ (t : Got ℕ). and_then (and_then {B = ℕ × (List ℕ × List Item)} t D) (λ p r. got (from_parts p) r)) ((number_lawful 2).back 3 rest (omega arith))
       ∙ ap (λ (t : Got (List ℕ)). with_mode 3 (with_items 3 t)) e
 
-  pub word_refused : (bs : List Bool) → WordThere row start end bs → (field row start end).dec bs ≡ refused 9
-  word_refused bs w = mode_3 bs w.rest 9 w.bits (word_above (count 3) w.rest w.is)
+  pub word_refused : (bs : List Bool) → WordThere row start end bs → (field row start end).dec bs ≡ refused GroupWord
+  word_refused bs w = mode_3 bs w.rest GroupWord w.bits (word_above (count 3) w.rest w.is)
 
-  pub padding_refused : (bs : List Bool) → PaddingThere row start end bs → (field row start end).dec bs ≡ refused 10
-  padding_refused bs w = mode_3 bs w.rest 10 w.bits (padding_there (count 3) w.rest w.is)
+  pub padding_refused : (bs : List Bool) → PaddingThere row start end bs → (field row start end).dec bs ≡ refused UnusedCode
+  padding_refused bs w = mode_3 bs w.rest UnusedCode w.bits (padding_there (count 3) w.rest w.is)
 
   pub field_read : (bs : List Bool) (f : FieldThere row start end bs) → (field row start end).dec bs ≡ got f.channel f.behind
   field_read bs f = ap (field row start end).dec f.bits ∙ (field_lawful lenient lenient_laws row start end).back f.channel f.behind f.ok
@@ -170,7 +183,7 @@ module _ (row : List ℕ) (start end : ℕ) where
       record { channel = c; behind = rest; ok = s.1; bits = s.0 }
 
   -- ---- 8: nothing is decided yet
-  decided : (bs : List Bool) → ((field row start end).dec bs ≡ refused 8 → ⊥) → Decided row start end bs
+  decided : (bs : List Bool) → ((field row start end).dec bs ≡ refused InputEnds → ⊥) → Decided row start end bs
   decided bs n = go ((field row start end).dec bs) refl (field_why bs)
     where
       go : (t : Got Channel) → (field row start end).dec bs ≡ t → FieldWhy bs t → Decided row start end bs
@@ -179,22 +192,22 @@ module _ (row : List ℕ) (start end : ℕ) where
       go (refused k) e (inr (inl y)) = inr (inl y.1)
       go (refused k) e (inr (inr y)) = inr (inr y.1)
 
-  not_eight : (bs : List Bool) → Decided row start end bs → (field row start end).dec bs ≡ refused 8 → ⊥
-  not_eight bs (inl f) e = got_not f.channel f.behind 8 (sym (field_read bs f) ∙ e)
-  not_eight bs (inr (inl w)) e = let z : ◌≡◌ {A = ℕ} 9 8 = cc (word_refused bs w) in omega arith
-  not_eight bs (inr (inr w)) e = let z : ◌≡◌ {A = ℕ} 10 8 = cc (padding_refused bs w) in omega arith
+  not_eight : (bs : List Bool) → Decided row start end bs → (field row start end).dec bs ≡ refused InputEnds → ⊥
+  not_eight bs (inl f) e = got_not f.channel f.behind InputEnds (sym (field_read bs f) ∙ e)
+  not_eight bs (inr (inl w)) e = not_ends_9 (same (sym (word_refused bs w) ∙ e))
+  not_eight bs (inr (inr w)) e = not_ends_10 (same (sym (padding_refused bs w) ∙ e))
 
-  pub runs_out : (bs : List Bool) → (field row start end).dec bs ≡ refused 8 → RunsOut row start end bs
+  pub runs_out : (bs : List Bool) → (field row start end).dec bs ≡ refused InputEnds → RunsOut row start end bs
   runs_out bs e = record {
     not_yet = λ d. not_eight bs d e;
     more = (field_ends bs).more;
     then = decided (bs ++ (field_ends bs).more) (field_ends bs).done;
   }
 
-  pub ran_out : (bs : List Bool) → RunsOut row start end bs → (field row start end).dec bs ≡ refused 8
+  pub ran_out : (bs : List Bool) → RunsOut row start end bs → (field row start end).dec bs ≡ refused InputEnds
   ran_out bs r = go ((field row start end).dec bs) refl (field_why bs)
     where
-      go : (t : Got Channel) → (field row start end).dec bs ≡ t → FieldWhy bs t → (field row start end).dec bs ≡ refused 8
+      go : (t : Got Channel) → (field row start end).dec bs ≡ t → FieldWhy bs t → (field row start end).dec bs ≡ refused InputEnds
       go (got c rest) e y = absurd (r.not_yet (inl (field_there bs rest c e)))
       go (refused k) e (inl y) = e ∙ ap refused y
       go (refused k) e (inr (inl y)) = absurd (r.not_yet (inr (inl y.1)))

@@ -8,13 +8,17 @@ use native.Mathlib.Nat.{le_trans}
 use lib.Dec.{eqb, ltb, leb}
 use lib.ListN.{length, get_or}
 use borrow.Author.Tests.{ltb-false, lt-ltb, le-ltb}
+use Rattle.std.specs.Prelude.{None, Some}
+use Rattle.answers.specs.Causes.{cause_number}
+use Rattle.answers.specs.declared.Refusal.TheVariants.{StartAboveEnd, EndAbove256, TooShort, HebapAbove19}
+use Rattle.answers.proofs.Numbers.{none_of}
 use Rattle.gains.specs.Gains.{active, coding_of}
 use Rattle.gains.specs.declared.Coding.{Coding}
 use Rattle.bits.proofs.Tests.{neither}
 use Rattle.channel.specs.Bins.{some_over}
 use Rattle.channel.specs.Row.{active_at, active_count, gain_at, unknown_at, row_cause, RowOk}
 use Rattle.channel.specs.Field.{none, coded_as, bin_of, bin_at}
-use Rattle.channel.proofs.Over.{sum_none, sum_at_most, sum_turn, none_there, one_small, none_of}
+use Rattle.channel.proofs.Over.{sum_none, sum_at_most, sum_turn, none_there, one_small}
 
 -- ---- active bins
 pub rank_turn : (mode : ℕ) (row : List ℕ) (start k n m : ℕ) (t : Bool) → start ≤ k → n ≡ active_count mode row start k → t ≡ active mode (get_or row k 0) → m ≡ cond t 1 0
@@ -66,45 +70,45 @@ unfolding unknown_at
 known_hebap row start end k o l u = ltb-false 19 (get_or row k 0) (none_there (unknown_at row) start end o k l u)
 
 module _ (row : List ℕ) (start end : ℕ) (short : Bool) where
-  pub cause_1 : end < start → 1 ≡ row_cause row start end short
+  pub cause_1 : end < start → row_cause row start end short ≡ Some StartAboveEnd
   unfolding row_cause
-  cause_1 h = sym (rw (lt-ltb end start h))
+  cause_1 h = rw (lt-ltb end start h)
 
   module _ (a : start ≤ end) where
-    pub cause_2 : 256 < end → 2 ≡ row_cause row start end short
+    pub cause_2 : 256 < end → row_cause row start end short ≡ Some EndAbove256
     unfolding row_cause
-    cause_2 h = sym (rw (le-ltb end start a, lt-ltb 256 end h))
+    cause_2 h = rw (le-ltb end start a, lt-ltb 256 end h)
 
     module _ (b : end ≤ 256) where
-      pub cause_3_row : length row < end → 3 ≡ row_cause row start end short
+      pub cause_3_row : length row < end → row_cause row start end short ≡ Some TooShort
       unfolding row_cause
-      cause_3_row h = sym (rw (le-ltb end start a, le-ltb 256 end b, lt-ltb (length row) end h))
+      cause_3_row h = rw (le-ltb end start a, le-ltb 256 end b, lt-ltb (length row) end h)
 
       module _ (c : end ≤ length row) where
-        pub cause_3_other : short ≡ true → 3 ≡ row_cause row start end short
+        pub cause_3_other : short ≡ true → row_cause row start end short ≡ Some TooShort
         unfolding row_cause
-        cause_3_other h = sym (rw (le-ltb end start a, le-ltb 256 end b, le-ltb (length row) end c, h))
+        cause_3_other h = rw (le-ltb end start a, le-ltb 256 end b, le-ltb (length row) end c, h)
 
-        pub cause_4_or_0 : (t : Bool) → short ≡ false → some_over (unknown_at row) start end ≡ t → cond t 4 0 ≡ row_cause row start end short
+        pub cause_4_or_none : (t : Bool) → short ≡ false → some_over (unknown_at row) start end ≡ t → row_cause row start end short ≡ cond t (Some HebapAbove19) None
         unfolding row_cause
-        cause_4_or_0 t f h = sym (rw (le-ltb end start a, le-ltb 256 end b, le-ltb (length row) end c, f, h) refl)
+        cause_4_or_none t f h = rw (le-ltb end start a, le-ltb 256 end b, le-ltb (length row) end c, f, h) refl
 
-pub row_ok : (row : List ℕ) (start end : ℕ) (short : Bool) → row_cause row start end short ≡ 0 → RowOk row start end × (short ≡ false)
+pub row_ok : (row : List ℕ) (start end : ℕ) (short : Bool) → row_cause row start end short ≡ None → RowOk row start end × (short ≡ false)
 unfolding row_cause
 row_ok row start end short z =
-    let a = none_of (ltb end start) 0 _ z in
-    let b = none_of (ltb 256 end) 1 _ a.1 in
-    let c = none_of (ltb (length row) end || short) 2 _ b.1 in
-    let d = none_of (some_over (unknown_at row) start end) 3 _ c.1 in
+    let a = none_of (ltb end start) StartAboveEnd _ z in
+    let b = none_of (ltb 256 end) EndAbove256 _ a.1 in
+    let c = none_of (ltb (length row) end || short) TooShort _ b.1 in
+    let d = none_of (some_over (unknown_at row) start end) HebapAbove19 _ c.1 in
     let r = neither (ltb (length row) end) short c.0 in
     (record { ordered = ltb-false end start a.0; few = ltb-false 256 end b.0; rows = ltb-false (length row) end r.0; known = d.0 }, r.1)
 
 -- they are 1 to 4
-pub row_cause_most : (row : List ℕ) (start end : ℕ) (short : Bool) → row_cause row start end short ≤ 4
+pub row_cause_most : (row : List ℕ) (start end : ℕ) (short : Bool) → cause_number (row_cause row start end short) ≤ 4
 unfolding row_cause
 row_cause_most row start end short = go (ltb end start) (ltb 256 end) (ltb (length row) end || short) (some_over (unknown_at row) start end)
   where
-    go : (a b c d : Bool) → cond a 1 (cond b 2 (cond c 3 (cond d 4 0))) ≤ 4
+    go : (a b c d : Bool) → cause_number (cond a (Some StartAboveEnd) (cond b (Some EndAbove256) (cond c (Some TooShort) (cond d (Some HebapAbove19) None)))) ≤ 4
     go true b c d = omega arith
     go false true c d = omega arith
     go false false true d = omega arith

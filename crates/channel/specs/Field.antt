@@ -1,7 +1,7 @@
 -- The field of a channel: two bits of mode, gain words, then the bins start to end - 1 in rising order.
 -- ATSC A/52 Annex E, 3.4; docs/FORMAT.md, Gains, Writer and Channel reader.
 use Rattle.std.specs.Prelude.{ℕ, zero, suc, Bool, cond, ◌&&◌, ◌||◌, List, [], ◌∷◌, eqb, leb, get_or, drop, replicate}
-use Rattle.answers.specs.Causes as cause
+use Rattle.answers.specs.declared.Refusal.TheVariants.{GroupWord, UnusedCode}
 use Rattle.bits.specs.Format.{Format, number, only, both, tested, shown, each}
 use Rattle.tables.specs.Tables.{mant_bits, vq_bits}
 use Rattle.gains.specs.Gains.{coding_of, gain_value, first_code, second_code, third_code, group_of}
@@ -22,7 +22,7 @@ gain_bit mode = shown (number 1) (λ c. gain_value c mode) (λ g. gain_code g mo
 
 -- mode 3: a word of five bits for three gains; 9 above 26
 abbrev pub grpgain : Format ℕ
-grpgain = tested (number 5) (λ w. leb w 26) cause.group_word
+grpgain = tested (number 5) (λ w. leb w 26) GroupWord
 
 -- its gains
 abbrev pub first : ℕ → ℕ
@@ -51,8 +51,8 @@ two_gains w = eqb (third_code w) 0
 -- n gains in words of three; 10 where a missing code is not 0
 unfoldable pub group_words : ℕ → Format (List ℕ)
 group_words zero = only []
-group_words (suc zero) = shown (tested grpgain one_gain cause.unused_code) (λ w. first w ∷ []) packed
-group_words (suc (suc zero)) = shown (tested grpgain two_gains cause.unused_code) (λ w. first w ∷ second w ∷ []) packed
+group_words (suc zero) = shown (tested grpgain one_gain UnusedCode) (λ w. first w ∷ []) packed
+group_words (suc (suc zero)) = shown (tested grpgain two_gains UnusedCode) (λ w. first w ∷ second w ∷ []) packed
 group_words (suc (suc (suc n))) =
     shown (both grpgain (λ w. group_words n)) (λ p. first p.0 ∷ second p.0 ∷ third p.0 ∷ p.1) (λ gs. (packed gs, drop 3 gs))
 

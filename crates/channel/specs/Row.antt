@@ -1,7 +1,8 @@
 -- The bins start to end - 1 of a row, by their places: which are active, the gain of each, and causes 1 to 4.
 -- docs/FORMAT.md, Words, Gains, and 'Causes and refusals'; ATSC A/52 Annex E, 3.4.2.
-use Rattle.std.specs.Prelude.{ℕ, ◌*◌, ◌≤◌, ◌≡◌, Bool, false, cond, ◌||◌, List, ltb, length, get_or, take, drop, replicate, Float}
-use Rattle.answers.specs.Causes as cause
+use Rattle.std.specs.Prelude.{ℕ, ◌*◌, ◌≤◌, ◌≡◌, Bool, false, cond, ◌||◌, List, ltb, length, get_or, take, drop, replicate, Float, Option, None, Some}
+use Rattle.answers.specs.declared.Refusal.{Refusal}
+use Rattle.answers.specs.declared.Refusal.TheVariants.{StartAboveEnd, EndAbove256, TooShort, HebapAbove19}
 use Rattle.gains.specs.Gains.{active}
 use Rattle.channel.specs.Bins.{sum_over, some_over}
 
@@ -31,13 +32,13 @@ six_of x k = take 6 (drop (6 * k) x)
 unfoldable pub unknown_at : List ℕ → ℕ → Bool
 unknown_at row k = ltb 19 (get_or row k 0)
 
--- the lowest that holds, where short says that some buffer beside the row is too short for the bins
-unfoldable pub row_cause : List ℕ → ℕ → ℕ → Bool → ℕ
+-- the lowest that holds, if one does, where short says that some buffer beside the row is too short for the bins
+unfoldable pub row_cause : List ℕ → ℕ → ℕ → Bool → Option Refusal
 row_cause row start end short =
-    cond (ltb end start) cause.start_above_end
-    (cond (ltb 256 end) cause.end_above256
-    (cond (ltb (length row) end || short) cause.too_short
-    (cond (some_over (unknown_at row) start end) cause.hebap_above19 cause.none)))
+    cond (ltb end start) (Some StartAboveEnd)
+    (cond (ltb 256 end) (Some EndAbove256)
+    (cond (ltb (length row) end || short) (Some TooShort)
+    (cond (some_over (unknown_at row) start end) (Some HebapAbove19) None)))
 
 -- none of them holds of the row and the bins
 pub record RowOk (row : List ℕ) (start end : ℕ) : Type 0 where

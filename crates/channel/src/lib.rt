@@ -5,6 +5,9 @@ ghost use Rattle.std.specs.Prelude.{◌≡◌, cond, ◌≤◌, length, get_or};
 ghost use Rattle.gains.specs.Gains.{active};
 ghost use Rattle.channel.specs.Bins.{some_over};
 ghost use Rattle.channel.specs.Row.{active_count, no_gains, unknown_at, row_cause};
+ghost use Rattle.answers.specs.Answers.{answered};
+
+use answers::Refusal;
 
 pub fn no_gains() -> [u8; 256]
     ensures { result ≡ no_gains }
@@ -12,27 +15,27 @@ pub fn no_gains() -> [u8; 256]
     [0u8; 256]
 }
 
-// The lowest of causes 1 to 4 that holds, 0 where none does; short says that some buffer beside the row is too short
-// for the bins.
-pub fn row_cause(row: &[u8], start: usize, end: usize, short: bool) -> u8
-    ensures { result ≡ row_cause row.now start end short }
+// Refuses with the lowest of causes 1 to 4 that holds; short says that some buffer beside the row is too short for the
+// bins.
+pub fn check_row(row: &[u8], start: usize, end: usize, short: bool) -> Result<(), Refusal>
+    ensures { result ≡ answered (row_cause row.now start end short) tt }
 {
     if end < start {
-        return answers::START_ABOVE_END;
+        return Err(Refusal::StartAboveEnd);
     }
     if 256 < end {
-        return answers::END_ABOVE_256;
+        return Err(Refusal::EndAbove256);
     }
     if row.len() < end {
-        return answers::TOO_SHORT;
+        return Err(Refusal::TooShort);
     }
     if short {
-        return answers::TOO_SHORT;
+        return Err(Refusal::TooShort);
     }
     if any_unknown(row, start, end) {
-        return answers::HEBAP_ABOVE_19;
+        return Err(Refusal::HebapAbove19);
     }
-    answers::NONE
+    Ok(())
 }
 
 // Whether some hebap of the bins start to end - 1 is above 19. All are looked at, which the machine does for several
