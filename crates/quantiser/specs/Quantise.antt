@@ -1,6 +1,6 @@
 -- quantise_scalar and quantise_bin of the Rust, operation by operation. docs/FORMAT.md, Quantiser; the codes are those
 -- of ATSC A/52 Annex E, 3.4.4.2.
-use Rattle.std.specs.Prelude.{ℕ, suc, ◌+◌, ◌-◌, ◌%◌, ◌^◌, Bool, false, cond, ◌&&◌, ◌||◌, List, [], ◌∷◌, map, replicate, ℤ, pos, negsuc, ◌+ℤ◌, ◌-ℤ◌, neg_ℤ, ◌==◌, from_bits, int_lt, is_nan, nat_le, Float}
+use Rattle.std.specs.Prelude.{ℕ, suc, ◌+◌, ◌-◌, ◌%◌, ◌^◌, Bool, false, cond, ◌&&◌, ◌||◌, List, [], ◌∷◌, map, replicate, ℤ, pos, negsuc, ◌+ℤ◌, ◌-ℤ◌, neg_ℤ, ◌==◌, from_bits, int_lt, is_nan, nat_le, Float, Result, Ok, Err}
 use Rattle.std.specs.Float.{nan, inf, fin, binary32}
 use Rattle.std.specs.Float.Ieee.{add, sub, mul, div, lt, le}
 use Rattle.tables.specs.Tables.{mant_bits}
@@ -12,9 +12,10 @@ use Rattle.levels.specs.Value.{f0, f1, power, gaq_remap, divided, value_in}
 use Rattle.quantiser.specs.Round.{round_away}
 use Rattle.quantiser.specs.declared.Best.{Best}
 use Rattle.quantiser.specs.declared.CodeLevel.{CodeLevel}
-use Rattle.quantiser.specs.declared.PickResult.{PickResult}
 use Rattle.quantiser.specs.declared.QuantisedBin.{QuantisedBin}
-use Rattle.answers.specs.Causes as cause
+use Rattle.answers.specs.Answers.{after_answer}
+use Rattle.answers.specs.declared.Refusal.{Refusal}
+use Rattle.answers.specs.declared.Refusal.TheVariants.{Component, NoQuantiser}
 
 -- ---- numbers
 -- 1e-9 and f32::INFINITY, by their bit patterns
@@ -142,31 +143,24 @@ abbrev pub allowed : ℕ → ℕ → Bool
 allowed h g = nat_le 8 h && nat_le h 19 && (g == 1 || nat_le h 16 && (g == 2 || g == 4))
 
 -- where components up to a limit are accepted
-unfoldable pub quantised_up_to : ℕ → ℕ → ℕ → Float → PickResult
+unfoldable pub quantised_up_to : ℕ → ℕ → ℕ → Float → Result CodeLevel Refusal
 quantised_up_to limit h g x =
     cond (allowed h g)
-    (cond (beyond limit x) (PickResult.Refused cause.component) (PickResult.Picked (picked h g x).0 (picked h g x).1))
-    (PickResult.Refused cause.no_quantiser)
+    (cond (beyond limit x) (Err Component) (Ok (code_level (picked h g x))))
+    (Err NoQuantiser)
 
-abbrev pub quantised : ℕ → ℕ → Float → PickResult
+abbrev pub quantised : ℕ → ℕ → Float → Result CodeLevel Refusal
 quantised = quantised_up_to largest_size
 
--- its number, the kind and the bits of the code, and its f32; what stood there before where it refuses
-abbrev pub picked_number : PickResult → ℕ
-picked_number (PickResult.Picked c l) = 0
-picked_number (PickResult.Refused n) = n
+-- the kind and the bits of its code, and its f32; what stood there before where it refuses
+abbrev pub picked_large : ℕ → Result CodeLevel Refusal → ℕ
+picked_large = after_answer (λ (p : CodeLevel). large_of p.code)
 
-abbrev pub picked_large : ℕ → PickResult → ℕ
-picked_large v (PickResult.Picked c l) = large_of c
-picked_large v (PickResult.Refused n) = v
+abbrev pub picked_code : ℕ → Result CodeLevel Refusal → ℕ
+picked_code = after_answer (λ (p : CodeLevel). code_of p.code)
 
-abbrev pub picked_code : ℕ → PickResult → ℕ
-picked_code v (PickResult.Picked c l) = code_of c
-picked_code v (PickResult.Refused n) = v
-
-abbrev pub picked_value : Float → PickResult → Float
-picked_value v (PickResult.Picked c l) = value_in l
-picked_value v (PickResult.Refused n) = v
+abbrev pub picked_value : Float → Result CodeLevel Refusal → Float
+picked_value = after_answer (λ (p : CodeLevel). value_in p.level)
 
 -- ---- quantise_bin: the six values, their bits and the sum of the squared errors, in order
 abbrev pub bin_values : ℕ → ℕ → List Float → List Float
@@ -183,15 +177,12 @@ error_from h g err (x ∷ xs) =
     error_from h g (add binary32 err (mul binary32 d d)) xs
 
 unfoldable pub bin_picked : ℕ → ℕ → List Float → QuantisedBin
-bin_picked h g xs = record { refusal = 0; values = bin_values h g xs; bits = codes_bits h g xs; err = error_from h g f0 xs }
+bin_picked h g xs = record { values = bin_values h g xs; bits = codes_bits h g xs; err = error_from h g f0 xs }
 
--- the answer of a refusal
-abbrev pub no_bin : ℕ → QuantisedBin
-no_bin n = record { refusal = n; values = replicate 6 f0; bits = 0; err = f0 }
-
-unfoldable pub quantised_bin_up_to : ℕ → ℕ → ℕ → List Float → QuantisedBin
+-- 11, then 5
+unfoldable pub quantised_bin_up_to : ℕ → ℕ → ℕ → List Float → Result QuantisedBin Refusal
 quantised_bin_up_to limit h g xs =
-    cond (allowed h g) (cond (some_beyond limit xs) (no_bin cause.component) (bin_picked h g xs)) (no_bin cause.no_quantiser)
+    cond (allowed h g) (cond (some_beyond limit xs) (Err Component) (Ok (bin_picked h g xs))) (Err NoQuantiser)
 
-abbrev pub quantised_bin : ℕ → ℕ → List Float → QuantisedBin
+abbrev pub quantised_bin : ℕ → ℕ → List Float → Result QuantisedBin Refusal
 quantised_bin = quantised_bin_up_to largest_size

@@ -3,13 +3,14 @@
 #![tactic(auto)]
 
 ghost use Rattle.std.specs.Prelude.{◌≡◌, ◌≤◌, length};
-ghost use Rattle.quantiser.specs.Quantise.{picked, allowed, quantised, bin_values, codes_bits, error_from, bin_picked, no_bin, quantised_bin};
+ghost use Rattle.quantiser.specs.Quantise.{picked, allowed, quantised, bin_values, codes_bits, error_from, bin_picked, quantised_bin};
 ghost use Rattle.quantiser.specs.Work.{unit_by, steps_of, IsSteps};
 ghost use Rattle.tables.specs.Tables.{mant_bits};
 ghost use Rattle.levels.specs.Codes.{code_bits};
 ghost use Rattle.levels.specs.Work.{word_of};
 ghost use Rattle.levels.specs.Value.{f0};
 
+use answers::Refusal;
 use levels::{Code, Level, Remap};
 
 mod integers;
@@ -18,17 +19,9 @@ mod probes;
 mod reals;
 mod round;
 
-// The code that is picked and its level, or the number of the refusal.
-#[derive(Clone, Copy)]
-pub enum PickResult {
-    Picked(Code, Level),
-    Refused(u8),
-}
-
-// The six values of a bin, its bits and the sum of its squared errors. refusal is 0, or its number beside zeros.
+// The six values of a bin, its bits and the sum of its squared errors.
 #[derive(Clone, Copy)]
 pub struct QuantisedBin {
-    pub refusal: u8,
     pub values: [f32; 6],
     pub bits: u32,
     pub err: f32,
@@ -165,33 +158,19 @@ fn allows(hebap: u8, gk: u8) -> bool
 }
 
 // The code for x at the hebap and the gain. Refuses with 11, then 5.
-pub fn quantise_scalar(hebap: u8, gk: u8, x: f32) -> PickResult
+pub fn quantise_scalar(hebap: u8, gk: u8, x: f32) -> Result<CodeLevel, Refusal>
     ensures { result ≡ quantised hebap gk x }
 {
-    if allows(hebap, gk) {
-        if levels::in_range(x) {
-            let p = pick::pick(steps_of(hebap, gk), x);
-            let code = p.code;
-            let level = p.level;
-            return PickResult::Picked(code, level);
-        }
-        return PickResult::Refused(answers::COMPONENT);
+    if !allows(hebap, gk) {
+        return Err(Refusal::NoQuantiser);
     }
-    PickResult::Refused(answers::NO_QUANTISER)
+    if !levels::in_range(x) {
+        return Err(Refusal::Component);
+    }
+    Ok(pick::pick(steps_of(hebap, gk), x))
 }
 
 // ---- a bin
-
-fn refuse(n: u8) -> QuantisedBin
-    ensures { result ≡ no_bin n }
-{
-    QuantisedBin {
-        refusal: n,
-        values: [0.0f32; 6],
-        bits: 0,
-        err: 0.0,
-    }
-}
 
 // The values of x, their bits and the sum of their squared errors, in order.
 fn fill(hebap: u8, gk: u8, x: &[f32], values: &mut [f32]) -> Sums
@@ -226,7 +205,6 @@ fn bin(hebap: u8, gk: u8, x: &[f32]) -> QuantisedBin
     let mut values = [0.0f32; 6];
     let sums = fill(hebap, gk, x, &mut values);
     QuantisedBin {
-        refusal: 0,
         values,
         bits: sums.bits,
         err: sums.err,
@@ -234,14 +212,14 @@ fn bin(hebap: u8, gk: u8, x: &[f32]) -> QuantisedBin
 }
 
 // The six values of x at the hebap and the gain, their bits and summed squared errors. Refuses with 11, then 5.
-pub fn quantise_bin(hebap: u8, gk: u8, x: &[f32; 6]) -> QuantisedBin
+pub fn quantise_bin(hebap: u8, gk: u8, x: &[f32; 6]) -> Result<QuantisedBin, Refusal>
     ensures { result ≡ quantised_bin hebap gk x.now }
 {
-    if allows(hebap, gk) {
-        if levels::any_too_large(x) {
-            return refuse(answers::COMPONENT);
-        }
-        return bin(hebap, gk, x);
+    if !allows(hebap, gk) {
+        return Err(Refusal::NoQuantiser);
     }
-    refuse(answers::NO_QUANTISER)
+    if levels::any_too_large(x) {
+        return Err(Refusal::Component);
+    }
+    Ok(bin(hebap, gk, x))
 }

@@ -6,32 +6,32 @@ use Rattle.quantiser.specs.Quantise.{quantised_up_to}
 use Rattle.quantiser.proofs.Fixed.{steps_is, steps_names}
 use Rattle.quantiser.proofs.Ints.{allowed_range}
 use Rattle.quantiser.proofs.quantise_scalar.Goals as goal
-use Rattle.quantiser.proofs.quantise_scalar.Goals.{Then-in_range}
+use Rattle.quantiser.proofs.quantise_scalar.Goals.{Else-not-allows}
 
-hebap_range : (c : Then-in_range) → (8 ≤ c.args.hebap) × (c.args.hebap ≤ 19)
-hebap_range c =
-    allowed_range c.args.hebap c.args.gk (sym c.allows.ensures ∙ c.if-allows.true)
+hebap_range : (c : Else-not-allows) → (8 ≤ c.args.hebap) × (c.args.hebap ≤ 19)
+hebap_range c = allowed_range c.args.hebap c.args.gk (sym c.allows.ensures ∙ c.if-not-allows.false)
+
+pub returns-then-not-allows : goal.returns-then-not-allows
+unfolding quantised_up_to
+returns-then-not-allows c = rw (sym c.allows.ensures ∙ c.if-not-allows.true)
+
+pub returns-then-not-in_range : goal.returns-then-not-in_range
+unfolding quantised_up_to
+returns-then-not-in_range c =
+    rw (sym c.allows.ensures ∙ c.if-not-allows.false, not-false (too_large c.args.x) (sym c.in_range.ensures ∙ c.if-not-in_range.true))
 
 pub steps_of-requires : goal.steps_of-requires
-steps_of-requires c = hebap_range c
+steps_of-requires c = hebap_range (goal.at.steps_of-requires c).Else-not-allows
 
-pub pick-p-requires : goal.pick-p-requires
-pick-p-requires c = let a = c.args in
-    let r = hebap_range (goal.at.pick-p-requires c).Then-in_range in
+pub pick-requires : goal.pick-requires
+pick-requires c =
+    let a = c.args in
+    let r = hebap_range (goal.at.pick-requires c).Else-not-allows in
     steps_is a.hebap a.gk _ c.steps_of.ensures r.0 r.1
-
-pub returns-then-in_range : goal.returns-then-in_range
-unfolding quantised_up_to
-returns-then-in_range c = let r = c.in_range in
-    let n = steps_names c.args.hebap c.args.gk _ c.steps_of.ensures in
-    let e = rw (n.0, n.1) at c.pick-p.ensures in
-    rw (e, sym c.allows.ensures ∙ c.if-allows.true, not-true (too_large c.args.x) (sym r.ensures ∙ c.if-in_range.true))
-
-pub returns-then-allows : goal.returns-then-allows
-unfolding quantised_up_to
-returns-then-allows c = let r = c.in_range in
-    rw (sym c.allows.ensures ∙ c.if-allows.true, not-false (too_large c.args.x) (sym r.ensures ∙ c.if-in_range.false))
 
 pub returns : goal.returns
 unfolding quantised_up_to
-returns c = rw (sym c.allows.ensures ∙ c.if-allows.false)
+returns c =
+    let n = steps_names c.args.hebap c.args.gk _ c.steps_of.ensures in
+    let e = rw (n.0, n.1) at c.pick.ensures in
+    rw (e, sym c.allows.ensures ∙ c.if-not-allows.false, not-true (too_large c.args.x) (sym c.in_range.ensures ∙ c.if-not-in_range.false))
