@@ -9,8 +9,8 @@ use Rattle.std.specs.Prelude.{Option, None, Some, Result, Ok, Err, IsErr, IsErrA
 use Rattle.std.proofs.lemmas.Result.{err_from_is_err_and}
 use Rattle.answers.specs.declared.Refusal.{Refusal}
 use Rattle.answers.specs.declared.Refusal.TheVariants.{StartAboveEnd, EndAbove256, TooShort, HebapAbove19, Component, PlanMisfit, OutputFull, InputEnds, GroupWord, UnusedCode, NoQuantiser, OutOfRange, Text}
-use Rattle.answers.specs.Causes.{number, cause_number}
-use Rattle.answers.specs.Answers.{answer_number}
+use Rattle.answers.specs.Causes.{number, cause_number, first_of}
+use Rattle.answers.specs.Answers.{answered, answer_number}
 
 -- a refusal has a number
 pub numbered : (k : Refusal) → 1 ≤ number k
@@ -67,3 +67,25 @@ passed_on {r = r} e = let p = err_from_is_err_and r e.1 in p.1 ∙ ap Err p.2
 pub none_of : (t : Bool) (k : Refusal) (d : Option Refusal) → cond t (Some k) d ≡ None → (t ≡ false) × (d ≡ None)
 none_of true k d e = absurd (let z : ◌≡◌ {A = ℕ} (number k) 0 = ap cause_number e in let n = numbered k in omega arith)
 none_of false k d e = (refl, e)
+
+pub no_number : (c : Option Refusal) → cause_number c ≡ 0 → c ≡ None
+no_number None e = refl
+no_number (Some k) e = let n = numbered k in absurd (omega arith)
+
+pub first_none : (c d : Option Refusal) → first_of c d ≡ None → (c ≡ None) × (d ≡ None)
+first_none None d e = (refl, e)
+first_none (Some k) d e = absurd (let z : ◌≡◌ {A = ℕ} (number k) 0 = ap cause_number e in let n = numbered k in omega arith)
+
+-- the number of an answer is that of the cause
+pub answered_number : {A : Type 0} (c : Option Refusal) (a : A) → answer_number (answered c a) ≡ cause_number c
+answered_number None a = refl
+answered_number (Some k) a = refl
+
+-- what an answer says of the cause
+pub held : {A : Type 0} (c : Option Refusal) (a : A) {r : Result A Refusal} {k : Refusal} → r ≡ answered c a → r ≡ Err k → c ≡ Some k
+held None a {k = k} e f = absurd (let z : ◌≡◌ {A = ℕ} 0 (number k) = ap answer_number (sym e ∙ f) in let n = numbered k in omega arith)
+held (Some j) a {k = k} e f = let g : ◌≡◌ {A = Result _ Refusal} (Err j) (Err k) = sym e ∙ f in let h : j ≡ k = cc in ap Some h
+
+pub none_held : {A : Type 0} (c : Option Refusal) (a : A) {r : Result A Refusal} {b : A} → r ≡ answered c a → r ≡ Ok b → c ≡ None
+none_held None a e f = refl
+none_held (Some j) a e f = absurd (let z : ◌≡◌ {A = ℕ} (number j) 0 = ap answer_number (sym e ∙ f) in let n = numbered j in omega arith)

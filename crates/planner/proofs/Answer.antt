@@ -9,19 +9,22 @@ use lib.Dec.{eqb, ltb}
 use lib.ListN.{length, get_or, take, drop, length-append}
 use lib.Seq.{take-take}
 use lib.Ieee.{Float}
-use Rattle.answers.specs.Causes as cause
+use Rattle.std.specs.Prelude.{Option, None, Some, Result, Ok, Err}
+use Rattle.answers.specs.Answers.{answered, answer_number, value_or}
+use Rattle.answers.specs.Causes.{number, cause_number, first_of}
+use Rattle.answers.specs.declared.Refusal.{Refusal}
+use Rattle.answers.specs.declared.Refusal.TheVariants.{Component, PlanMisfit}
+use Rattle.answers.proofs.Numbers.{numbered, none_of, first_none, no_number, answered_number}
 use Rattle.levels.specs.Component.{some_too_large}
 use Rattle.bits.proofs.Tests.{both}
 use Rattle.channel.specs.Bins.{some_over}
 use Rattle.channel.specs.Row.{no_gains, six_of, row_cause}
-use Rattle.channel.proofs.Over.{none_of}
-use Rattle.channel.proofs.Rows.{row_ok, cause_4_or_0, count_most, row_cause_most}
+use Rattle.channel.proofs.Rows.{row_ok, cause_4_or_none, count_most, row_cause_most}
 use Rattle.planner.specs.Choice.{least_up_to, least_of, plan_mode, plan_gains, plan_payload, payload_of, choice_bits, Choice, gains_over}
 use Rattle.planner.specs.Work.{mode_at, TalliesOf, payload_in, Within}
-use Rattle.planner.specs.Planning.{too_large_at, beyond_at, refusal_of, plan_of, cause_of, cause_up_to, planned, planned_up_to, total_of, gains_of}
+use Rattle.planner.specs.Planning.{too_large_at, beyond_at, plan_of, cause_of, cause_up_to, planned, planned_up_to, plan_answered, total_of, gains_of}
 use Rattle.planner.specs.Fit.{plan_fits, plan_cause, plan_cause_up_to}
 use Rattle.planner.specs.declared.Plan.{Plan}
-use Rattle.planner.specs.declared.Planned.{Planned}
 use Rattle.planner.proofs.Optimal.{first_least, least_same, gains_length, plan_choice, plan_least, plan_lowest}
 use Rattle.planner.proofs.Tallies.{payload_is}
 use Rattle.planner.proofs.Chosen.{fits_parts, fits_choice, plan_fits_lem}
@@ -73,105 +76,88 @@ short_is n e = go (ltb n (6 * e)) refl
     go false q = let l = ltb-false n (6 * e) q in le-ltb (n / 6) e (omega arith)
 
 module _ (row : List ℕ) (start end : ℕ) (x : List Float) where
-  -- what cause calls asks by the quotient
-  module _ (k : ℕ) (ek : k ≡ row_cause row start end (ltb (length x / 6) end)) where
-    by_product : k ≡ row_cause row start end (ltb (length x) (6 * end))
-    by_product = ek ∙ ap (row_cause row start end) (short_is (length x) end)
+  -- what check_channel asks by the quotient
+  by_product : row_cause row start end (ltb (length x / 6) end) ≡ row_cause row start end (ltb (length x) (6 * end))
+  by_product = ap (row_cause row start end) (short_is (length x) end)
 
-    pub cause_row : (k ≡ 0 → ⊥) → k ≡ cause_of row start end x
+  module _ (none : row_cause row start end (ltb (length x / 6) end) ≡ None) where
+    pub cause_within : Within row start end x
+    cause_within = let r = row_ok row start end (ltb (length x) (6 * end)) (sym by_product ∙ none) in record { row_ok = r.0; vectors = ltb-false (length x) (6 * end) r.1 }
+
+    pub cause_rest : (t : Bool) → some_over (too_large_at row x) start end ≡ t → cause_of row start end x ≡ cond t (Some Component) None
     unfolding cause_up_to
-    cause_row n = rw (sym by_product, ne_eqb k 0 n)
+    cause_rest t e = rw (sym by_product ∙ none, e) refl
 
-    pub cause_within : k ≡ 0 → Within row start end x
-    cause_within z = let r = row_ok row start end (ltb (length x) (6 * end)) (sym by_product ∙ z) in record { row_ok = r.0; vectors = ltb-false (length x) (6 * end) r.1 }
+  pub cause_row : (k : Refusal) → row_cause row start end (ltb (length x / 6) end) ≡ Some k → cause_of row start end x ≡ Some k
+  unfolding cause_up_to
+  cause_row k e = rw (sym by_product ∙ e)
 
-    pub cause_rest : k ≡ 0 → (t : Bool) → some_over (too_large_at row x) start end ≡ t → cond t 5 0 ≡ cause_of row start end x
-    unfolding cause_up_to
-    cause_rest z t e = sym (rw (sym by_product ∙ z, e) refl)
-
-  pub cause_0 : Within row start end x → some_over (too_large_at row x) start end ≡ false → 0 ≡ cause_of row start end x
+  pub cause_0 : Within row start end x → some_over (too_large_at row x) start end ≡ false → cause_of row start end x ≡ None
   unfolding cause_up_to
   cause_0 w e =
       let r = w.row_ok in
-      let z : 0 ≡ row_cause row start end (ltb (length x) (6 * end)) =
-      cause_4_or_0 row start end (ltb (length x) (6 * end)) r.ordered r.few r.rows false (le-ltb (length x) (6 * end) w.vectors) r.known in
-      sym (rw (sym z, e))
+      let z : row_cause row start end (ltb (length x) (6 * end)) ≡ None =
+      cause_4_or_none row start end (ltb (length x) (6 * end)) r.ordered r.few r.rows false (le-ltb (length x) (6 * end) w.vectors) r.known in
+      rw (z, e)
 
-  -- Where the cause is 0, none of the five holds.
-  pub cause_none : cause_of row start end x ≡ 0 → Within row start end x × (some_over (too_large_at row x) start end ≡ false)
+  -- Where no cause is named, none of the five holds.
+  pub cause_none : cause_of row start end x ≡ None → Within row start end x × (some_over (too_large_at row x) start end ≡ false)
   unfolding cause_up_to
-  cause_none h = go (eqb k 0) refl h
-    where
-      k : ℕ
-      k = row_cause row start end (ltb (length x) (6 * end))
-
-      go : (t : Bool) → eqb k 0 ≡ t → cond t (cond (some_over (too_large_at row x) start end) 5 0) k ≡ 0 → Within row start end x × (some_over (too_large_at row x) start end ≡ false)
-      go true q z =
-          let r = row_ok row start end (ltb (length x) (6 * end)) (eqb-true k 0 q) in
-          (record { row_ok = r.0; vectors = ltb-false (length x) (6 * end) r.1 }, (none_of (some_over (too_large_at row x) start end) 4 0 z).0)
-      go false q z = absurd (eqb-false k 0 q z)
+  cause_none h =
+      let n = first_none (row_cause row start end (ltb (length x) (6 * end))) _ h in
+      let r = row_ok row start end (ltb (length x) (6 * end)) n.0 in
+      (record { row_ok = r.0; vectors = ltb-false (length x) (6 * end) r.1 }, (none_of (some_over (too_large_at row x) start end) Component None n.1).0)
 
   -- They are 1 to 5.
-  pub cause_most : cause_of row start end x ≤ 5
+  pub cause_most : cause_number (cause_of row start end x) ≤ 5
   unfolding cause_up_to
   cause_most = go (row_cause row start end (ltb (length x) (6 * end))) (row_cause_most row start end (ltb (length x) (6 * end))) (some_over (too_large_at row x) start end)
     where
-      go : (k : ℕ) → k ≤ 4 → (t : Bool) → cond (eqb k 0) (cond t 5 0) k ≤ 5
-      go k h t = of (eqb k 0) t
-        where
-          of : (b t : Bool) → cond b (cond t 5 0) k ≤ 5
-          of true true = omega arith
-          of true false = omega arith
-          of false t = omega arith
+      go : (k : Option Refusal) → cause_number k ≤ 4 → (t : Bool) → cause_number (first_of k (cond t (Some Component) None)) ≤ 5
+      go None h true = omega arith
+      go None h false = omega arith
+      go (Some k) h t = omega arith
 
   -- 5 is a component's
-  pub cause_five : cause_of row start end x ≡ cause.component → some_over (too_large_at row x) start end ≡ true
+  pub cause_five : cause_of row start end x ≡ Some Component → some_over (too_large_at row x) start end ≡ true
   unfolding cause_up_to
   cause_five = go (row_cause row start end (ltb (length x) (6 * end))) (row_cause_most row start end (ltb (length x) (6 * end))) (some_over (too_large_at row x) start end)
     where
-      go : (k : ℕ) → k ≤ 4 → (t : Bool) → cond (eqb k 0) (cond t 5 0) k ≡ 5 → t ≡ true
-      go k h t = of (eqb k 0) t
-        where
-          of : (b t : Bool) → cond b (cond t 5 0) k ≡ 5 → t ≡ true
-          of b true e = refl
-          of true false e = absurd (omega arith)
-          of false false e = absurd (omega arith)
+      go : (k : Option Refusal) → cause_number k ≤ 4 → (t : Bool) → first_of k (cond t (Some Component) None) ≡ Some Component → t ≡ true
+      go k h true e = refl
+      go None h false e = absurd (let z : ◌≡◌ {A = ℕ} 0 5 = ap cause_number e in omega arith)
+      go (Some k) h false e = absurd (let z : ◌≡◌ {A = ℕ} (number k) 5 = ap cause_number e in omega arith)
 
 -- ---- the answer
-pub number_is : (k : ℕ) (p : Plan) → (cond (eqb k 0) (record { refusal = 0; plan = p }) (refusal_of k)).refusal ≡ k
-unfolding refusal_of
-number_is zero p = refl
-number_is (suc k) p = rw (ne_eqb (suc k) 0 (λ (e : suc k ≡ 0). omega arith))
-
 module _ (row : List ℕ) (start end : ℕ) (x : List Float) where
-  pub planned_good : (p : Plan) → p ≡ plan_of row x start end → cause_of row start end x ≡ 0 → ◌≡◌ {A = Planned} (record { refusal = 0; plan = p }) (planned row start end x)
+  pub planned_good : (p : Plan) → p ≡ plan_of row x start end → cause_of row start end x ≡ None → ◌≡◌ {A = Result Plan Refusal} (Ok p) (planned row start end x)
   unfolding planned_up_to
-  planned_good p e h = ap (λ (z : Plan). record { refusal = 0; plan = z }) e ∙ sym (rw h)
+  planned_good p e h = ap Ok e ∙ sym (rw h)
 
-  pub planned_refused : (k : ℕ) → k ≡ cause_of row start end x → (k ≡ 0 → ⊥) → refusal_of k ≡ planned row start end x
+  pub planned_refused : (k : Refusal) → cause_of row start end x ≡ Some k → ◌≡◌ {A = Result Plan Refusal} (Err k) (planned row start end x)
   unfolding planned_up_to
-  planned_refused k e n = rw (sym e, ne_eqb k 0 n)
+  planned_refused k e = sym (rw e)
 
   -- The refusal is the cause.
-  pub refusal_is : (planned row start end x).refusal ≡ cause_of row start end x
+  pub refusal_is : answer_number (planned row start end x) ≡ cause_number (cause_of row start end x)
   unfolding planned_up_to
-  refusal_is = number_is (cause_of row start end x) (plan_of row x start end)
+  refusal_is = answered_number (cause_of row start end x) (plan_of row x start end)
 
   -- Where none of causes 1 to 5 holds a plan is given.
-  pub answer_given : Within row start end x → some_over (too_large_at row x) start end ≡ false → (planned row start end x).refusal ≡ 0
-  answer_given w e = refusal_is ∙ sym (cause_0 row start end x w e)
+  pub answer_given : Within row start end x → some_over (too_large_at row x) start end ≡ false → answer_number (planned row start end x) ≡ 0
+  answer_given w e = refusal_is ∙ ap cause_number (cause_0 row start end x w e)
 
   -- ---- an answer that is no refusal is the plan,
-  pub answer_plan : (planned row start end x).refusal ≡ 0 → (planned row start end x).plan ≡ plan_of row x start end
-  answer_plan h = sym (ap (λ (r : Planned). r.plan) (planned_good (plan_of row x start end) refl (sym refusal_is ∙ h)))
+  pub answer_plan : answer_number (planned row start end x) ≡ 0 → plan_answered row start end x ≡ plan_of row x start end
+  answer_plan h = sym (ap (value_or _) (planned_good (plan_of row x start end) refl (no_number (cause_of row start end x) (sym refusal_is ∙ h))))
 
-module _ (row : List ℕ) (start end : ℕ) (x : List Float) (h : (planned row start end x).refusal ≡ 0) where
+module _ (row : List ℕ) (start end : ℕ) (x : List Float) (h : answer_number (planned row start end x) ≡ 0) where
   -- none of the causes holds,
   pub answer_within : Within row start end x × (some_over (too_large_at row x) start end ≡ false)
-  answer_within = cause_none row start end x (sym (refusal_is row start end x) ∙ h)
+  answer_within = cause_none row start end x (no_number (cause_of row start end x) (sym (refusal_is row start end x) ∙ h))
 
   -- its gains are in 256 places,
-  pub answer_count : (planned row start end x).plan.count ≤ 256
+  pub answer_count : (plan_answered row start end x).count ≤ 256
   unfolding plan_of
   answer_count =
       let o = (plan_choice row x start end).one_each in
@@ -180,14 +166,14 @@ module _ (row : List ℕ) (start end : ℕ) (x : List Float) (h : (planned row s
       rw (answer_plan row start end x h) (omega arith)
 
   -- it fits,
-  pub answer_fits : plan_fits (planned row start end x).plan row start end x ≡ true
+  pub answer_fits : plan_fits (plan_answered row start end x) row start end x ≡ true
   answer_fits = rw (answer_plan row start end x h) (plan_fits_lem row x start end)
 
   -- it is itself a choice, with the bits that it says,
-  pub answer_choice : let p = (planned row start end x).plan in Choice p.mode (gains_of p) row start end × (total_of p ≡ choice_bits p.mode (gains_of p) row x start end)
+  pub answer_choice : let p = plan_answered row start end x in Choice p.mode (gains_of p) row start end × (total_of p ≡ choice_bits p.mode (gains_of p) row x start end)
   unfolding plan_of choice_bits
   answer_choice =
-      let p = (planned row start end x).plan in
+      let p = plan_answered row start end x in
       let g = plan_gains row x start end in
       let n = length-append g (drop (length g) no_gains) in
       let r : p.count ≤ length p.gains = rw (answer_plan row start end x h) (omega arith) in
@@ -195,52 +181,43 @@ module _ (row : List ℕ) (start end : ℕ) (x : List Float) (h : (planned row s
       (c.0, ap (λ (b : ℕ). 2 + b) c.1)
 
   -- no choice has fewer bits,
-  pub answer_least : (mode : ℕ) (gains : List ℕ) → Choice mode gains row start end → total_of (planned row start end x).plan ≤ choice_bits mode gains row x start end
+  pub answer_least : (mode : ℕ) (gains : List ℕ) → Choice mode gains row start end → total_of (plan_answered row start end x) ≤ choice_bits mode gains row x start end
   answer_least mode gains c = rw (answer_plan row start end x h) (plan_least mode gains row x start end c)
 
   -- and one of a lower mode has more.
-  pub answer_lowest : (mode : ℕ) (gains : List ℕ) → Choice mode gains row start end → mode < (planned row start end x).plan.mode → total_of (planned row start end x).plan < choice_bits mode gains row x start end
+  pub answer_lowest : (mode : ℕ) (gains : List ℕ) → Choice mode gains row start end → mode < (plan_answered row start end x).mode → total_of (plan_answered row start end x) < choice_bits mode gains row x start end
   unfolding plan_of
   answer_lowest mode gains c l = rw (answer_plan row start end x h) (plan_lowest mode gains row x start end c (rw (answer_plan row start end x h) at l))
 
--- ---- one cause behind another
--- where neither of two causes holds
-pub first_none : (c d : ℕ) → cause.first_of c d ≡ 0 → (c ≡ 0) × (d ≡ 0)
-first_none c d = go (eqb c 0) refl
-  where
-    go : (t : Bool) → eqb c 0 ≡ t → cond t d c ≡ 0 → (c ≡ 0) × (d ≡ 0)
-    go true e h = (eqb-true c 0 e, h)
-    go false e h = absurd (eqb-false c 0 e h)
-
 -- a test that gives no cause
-pub fine : (t : Bool) (k : ℕ) → (k ≡ 0 → ⊥) → cond t 0 k ≡ 0 → t ≡ true
-fine true k n h = refl
-fine false k n h = absurd (n h)
+pub fine : (t : Bool) (k : Refusal) → cond t None (Some k) ≡ None → t ≡ true
+fine true k h = refl
+fine false k h = absurd (let z : ◌≡◌ {A = ℕ} (number k) 0 = ap cause_number h in let n = numbered k in omega arith)
 
 -- ---- the cause of a plan that is given
 module _ (p : Plan) (row : List ℕ) (start end : ℕ) (x : List Float) where
-  pub plan_cause_row : (k : ℕ) → k ≡ cause_of row start end x → (k ≡ 0 → ⊥) → k ≡ plan_cause p row start end x
+  pub plan_cause_row : (k : Refusal) → cause_of row start end x ≡ Some k → plan_cause p row start end x ≡ Some k
   unfolding plan_cause_up_to
-  plan_cause_row k e n = rw (sym e, ne_eqb k 0 n)
+  plan_cause_row k e = rw e
 
-  pub plan_cause_fit : (t : Bool) → cause_of row start end x ≡ 0 → t ≡ plan_fits p row start end x → cond t 0 6 ≡ plan_cause p row start end x
+  pub plan_cause_fit : (t : Bool) → cause_of row start end x ≡ None → t ≡ plan_fits p row start end x → plan_cause p row start end x ≡ cond t None (Some PlanMisfit)
   unfolding plan_cause_up_to
-  plan_cause_fit t z e = sym (rw (z, sym e) refl)
+  plan_cause_fit t z e = rw (z, sym e) refl
 
-  -- Where it is 0, none of the six holds.
-  pub plan_cause_none : plan_cause p row start end x ≡ 0 → (cause_of row start end x ≡ 0) × (plan_fits p row start end x ≡ true)
+  -- Where none is named, none of the six holds.
+  pub plan_cause_none : plan_cause p row start end x ≡ None → (cause_of row start end x ≡ None) × (plan_fits p row start end x ≡ true)
   unfolding plan_cause_up_to
-  plan_cause_none h = let n = first_none (cause_of row start end x) _ h in (n.0, fine (plan_fits p row start end x) 6 (λ e. omega arith) n.1)
+  plan_cause_none h = let n = first_none (cause_of row start end x) _ h in (n.0, fine (plan_fits p row start end x) PlanMisfit n.1)
 
   -- They are 1 to 6.
-  pub plan_cause_most : plan_cause p row start end x ≤ 6
+  pub plan_cause_most : cause_number (plan_cause p row start end x) ≤ 6
   unfolding plan_cause_up_to
-  plan_cause_most = go (eqb (cause_of row start end x) 0) (plan_fits p row start end x)
+  plan_cause_most = go (cause_of row start end x) (cause_most row start end x) (plan_fits p row start end x)
     where
-      go : (z t : Bool) → cond z (cond t 0 6) (cause_of row start end x) ≤ 6
-      go true true = omega arith
-      go true false = omega arith
-      go false t = let m = cause_most row start end x in omega arith
+      go : (k : Option Refusal) → cause_number k ≤ 5 → (t : Bool) → cause_number (first_of k (cond t None (Some PlanMisfit))) ≤ 6
+      go None h true = omega arith
+      go None h false = omega arith
+      go (Some k) h t = omega arith
 
 -- ---- a plan that fits
 module _ (p : Plan) (row : List ℕ) (start end : ℕ) (x : List Float) where
@@ -263,7 +240,7 @@ pub record Fitting (p : Plan) (row : List ℕ) (start end : ℕ) (x : List Float
   pub bits : choice_bits p.mode (gains_of p) row x start end ≡ total_of p
 
 module _ (p : Plan) (row : List ℕ) (start end : ℕ) (x : List Float) (places : length p.gains ≡ 256) where
-  pub fitting : cause_of row start end x ≡ 0 → plan_fits p row start end x ≡ true → Fitting p row start end x
+  pub fitting : cause_of row start end x ≡ None → plan_fits p row start end x ≡ true → Fitting p row start end x
   unfolding choice_bits
   fitting none fits =
       let k = cause_none row start end x none in
@@ -272,5 +249,5 @@ module _ (p : Plan) (row : List ℕ) (start end : ℕ) (x : List Float) (places 
       let c = fits_choice p row start end x room fits in
       record { within = k.0; inside = k.1; room = room; choice = c.0; payload = c.1; bits = ap (λ (b : ℕ). 2 + b) (sym c.1) }
 
-  pub plan_fitting : plan_cause p row start end x ≡ 0 → Fitting p row start end x
+  pub plan_fitting : plan_cause p row start end x ≡ None → Fitting p row start end x
   plan_fitting none = let f = plan_cause_none p row start end x none in fitting f.0 f.1

@@ -1,7 +1,9 @@
 -- When a choice, and a plan, fits a row and its vectors, best or not; causes 1 to 6 of a plan. docs/FORMAT.md, Writer,
 -- and 'Causes and refusals'.
-use Rattle.std.specs.Prelude.{ℕ, Bool, cond, not, ◌&&◌, List, eqb, leb, get_or, Float}
-use Rattle.answers.specs.Causes as cause
+use Rattle.std.specs.Prelude.{ℕ, Bool, cond, not, ◌&&◌, List, eqb, leb, get_or, Float, Option, None, Some}
+use Rattle.answers.specs.Causes.{first_of}
+use Rattle.answers.specs.declared.Refusal.{Refusal}
+use Rattle.answers.specs.declared.Refusal.TheVariants.{PlanMisfit}
 use Rattle.levels.specs.Component.{largest_size}
 use Rattle.gains.specs.Gains.{allowed_gain}
 use Rattle.channel.specs.Bins.{some_over}
@@ -27,10 +29,10 @@ plan_fits p row start end x =
     choice_fits p.mode p.gains p.count row start end
     && eqb p.payload (payload_of p.mode p.gains row x start end)
 
--- 1 to 6, of every call that takes a plan: the lowest that holds, 0 where the plan fits
-unfoldable pub plan_cause_up_to : ℕ → Plan → List ℕ → ℕ → ℕ → List Float → ℕ
+-- 1 to 6, of every call that takes a plan: the lowest that holds, if one does
+unfoldable pub plan_cause_up_to : ℕ → Plan → List ℕ → ℕ → ℕ → List Float → Option Refusal
 plan_cause_up_to limit p row start end x =
-    cause.first_of (cause_up_to limit row start end x) (cond (plan_fits p row start end x) cause.none cause.plan_misfit)
+    first_of (cause_up_to limit row start end x) (cond (plan_fits p row start end x) None (Some PlanMisfit))
 
-abbrev pub plan_cause : Plan → List ℕ → ℕ → ℕ → List Float → ℕ
+abbrev pub plan_cause : Plan → List ℕ → ℕ → ℕ → List Float → Option Refusal
 plan_cause = plan_cause_up_to largest_size

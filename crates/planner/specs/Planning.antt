@@ -1,39 +1,34 @@
 -- What plan_aht_channel answers: a plan, or a refusal. docs/FORMAT.md, Planner, 'Causes and refusals' (1 to 5, the
 -- lowest number that holds), and Writer (gains as Gk in bin order, unused places 0).
-use Rattle.std.specs.Prelude.{ℕ, ◌+◌, ◌*◌, Bool, cond, not, ◌&&◌, List, ◌++◌, eqb, ltb, length, get_or, take, drop, Float}
-use Rattle.answers.specs.Causes as cause
+use Rattle.std.specs.Prelude.{ℕ, ◌+◌, ◌*◌, Bool, cond, not, ◌&&◌, List, ◌++◌, eqb, ltb, length, get_or, take, drop, Float, Option, None, Some, Result}
+use Rattle.answers.specs.Answers.{answered, value_or}
+use Rattle.answers.specs.Causes.{first_of}
+use Rattle.answers.specs.declared.Refusal.{Refusal}
+use Rattle.answers.specs.declared.Refusal.TheVariants.{Component}
 use Rattle.levels.specs.Component.{some_beyond, largest_size}
 use Rattle.channel.specs.Bins.{some_over}
 use Rattle.channel.specs.Row.{no_gains, six_of, row_cause}
 use Rattle.planner.specs.Choice.{plan_mode, plan_gains, plan_payload}
 use Rattle.planner.specs.declared.Plan.{Plan}
-use Rattle.planner.specs.declared.Planned.{Planned}
 
 -- ---- the cause
 -- 5 at the bin k: a component beyond the limit, and hebap not 0
 unfoldable pub beyond_at : ℕ → List ℕ → List Float → ℕ → Bool
 beyond_at limit row x k = not (eqb (get_or row k 0) 0) && some_beyond limit (six_of x k)
 
--- 1 to 5: the lowest that holds, 0 where none does
-unfoldable pub cause_up_to : ℕ → List ℕ → ℕ → ℕ → List Float → ℕ
+-- 1 to 5: the lowest that holds, if one does
+unfoldable pub cause_up_to : ℕ → List ℕ → ℕ → ℕ → List Float → Option Refusal
 cause_up_to limit row start end x =
-    cause.first_of (row_cause row start end (ltb (length x) (6 * end))) (cond (some_over (beyond_at limit row x) start end) cause.component cause.none)
+    first_of (row_cause row start end (ltb (length x) (6 * end))) (cond (some_over (beyond_at limit row x) start end) (Some Component) None)
 
 -- at the limit that holds
 abbrev pub too_large_at : List ℕ → List Float → ℕ → Bool
 too_large_at = beyond_at largest_size
 
-abbrev pub cause_of : List ℕ → ℕ → ℕ → List Float → ℕ
+abbrev pub cause_of : List ℕ → ℕ → ℕ → List Float → Option Refusal
 cause_of = cause_up_to largest_size
 
 -- ---- the answer
--- a plan of zeros stands beside a refusal
-unfoldable pub no_plan : Plan
-no_plan = record { mode = 0; gains = no_gains; count = 0; payload = 0 }
-
-unfoldable pub refusal_of : ℕ → Planned
-refusal_of n = record { refusal = n; plan = no_plan }
-
 -- gains in bin order, unused places 0
 unfoldable pub plan_of : List ℕ → List Float → ℕ → ℕ → Plan
 plan_of row x start end = record {
@@ -51,11 +46,12 @@ gains_of p = take p.count p.gains
 abbrev pub total_of : Plan → ℕ
 total_of p = 2 + p.payload
 
-unfoldable pub planned_up_to : ℕ → List ℕ → ℕ → ℕ → List Float → Planned
-planned_up_to limit row start end x =
-    cond (eqb (cause_up_to limit row start end x) 0)
-    (record { refusal = 0; plan = plan_of row x start end })
-    (refusal_of (cause_up_to limit row start end x))
+unfoldable pub planned_up_to : ℕ → List ℕ → ℕ → ℕ → List Float → Result Plan Refusal
+planned_up_to limit row start end x = answered (cause_up_to limit row start end x) (plan_of row x start end)
 
-abbrev pub planned : List ℕ → ℕ → ℕ → List Float → Planned
+abbrev pub planned : List ℕ → ℕ → ℕ → List Float → Result Plan Refusal
 planned = planned_up_to largest_size
+
+-- the plan that is answered; zeros where there is none
+abbrev pub plan_answered : List ℕ → ℕ → ℕ → List Float → Plan
+plan_answered row start end x = value_or (record { mode = 0; gains = no_gains; count = 0; payload = 0 }) (planned row start end x)

@@ -8,7 +8,10 @@ ghost use Rattle.channel.specs.Row.{RowOk, six_of};
 ghost use Rattle.planner.specs.Cost.{bin_bits};
 ghost use Rattle.planner.specs.Work.{Within};
 ghost use Rattle.planner.specs.Fit.{choice_fits, plan_fits, plan_cause};
-ghost use Rattle.planner.specs.Planning.{too_large_at, refusal_of, plan_of, cause_of, planned};
+ghost use Rattle.planner.specs.Planning.{too_large_at, plan_of, cause_of, planned};
+ghost use Rattle.answers.specs.Answers.{answered};
+
+use answers::Refusal;
 
 mod fit;
 mod one_bin;
@@ -21,13 +24,6 @@ pub struct Plan {
     pub gains: [u8; 256],
     pub count: usize,
     pub payload: u32,
-}
-
-// 0 and the plan, or the number of the refusal and zeros.
-#[derive(Clone, Copy)]
-pub struct Planned {
-    pub refusal: u8,
-    pub plan: Plan,
 }
 
 // The bits of a bin's six codes at each gain.
@@ -66,21 +62,6 @@ fn plan_bins(row: &[u8], start: usize, end: usize, x: &[f32]) -> Plan
     }
 }
 
-fn refuse(n: u8) -> Planned
-    ensures { result ≡ refusal_of n }
-{
-    let gains = channel::no_gains();
-    Planned {
-        refusal: n,
-        plan: Plan {
-            mode: 0,
-            gains,
-            count: 0,
-            payload: 0,
-        },
-    }
-}
-
 fn too_large_at(row: &[u8], x: &[f32], bin: usize) -> bool
     requires { (bin < 256) × (bin < length row.now) × (6 * bin + 6 ≤ length x.now) }
     ensures { result ≡ too_large_at row.now x.now bin }
@@ -107,30 +88,28 @@ fn any_too_large(row: &[u8], start: usize, end: usize, x: &[f32]) -> bool
     false
 }
 
-// The lowest of causes 1 to 5 that holds, 0 where none does.
-pub fn cause(hebap: &[u8], start: usize, end: usize, x: &[f32]) -> u8
-    ensures { result ≡ cause_of hebap.now start end x.now }
+// Refuses with the lowest of causes 1 to 5 that holds.
+pub fn check_channel(hebap: &[u8], start: usize, end: usize, x: &[f32]) -> Result<(), Refusal>
+    ensures { result ≡ answered (cause_of hebap.now start end x.now) tt }
 {
-    let k = channel::row_cause(hebap, start, end, x.len() / 6 < end);
-    if k != 0 {
-        return k;
-    }
+    channel::check_row(hebap, start, end, x.len() / 6 < end)?;
     if any_too_large(hebap, start, end, x) {
-        return answers::COMPONENT;
+        return Err(Refusal::Component);
     }
-    answers::NONE
+    Ok(())
 }
 
 // The plan of the bins start to end - 1, where hebap is the row and x the vectors. Refuses with 1 to 5.
-pub fn plan_aht_channel(hebap: &[u8], start: usize, end: usize, x: &[f32]) -> Planned
+pub fn plan_aht_channel(
+    hebap: &[u8],
+    start: usize,
+    end: usize,
+    x: &[f32],
+) -> Result<Plan, Refusal>
     ensures { result ≡ planned hebap.now start end x.now }
 {
-    let k = cause(hebap, start, end, x);
-    if k == 0 {
-        let plan = plan_bins(hebap, start, end, x);
-        return Planned { refusal: 0, plan };
-    }
-    refuse(k)
+    check_channel(hebap, start, end, x)?;
+    Ok(plan_bins(hebap, start, end, x))
 }
 
 // Whether the mode is 0 to 3 and the first count gains are allowed gains of the active bins, one for each.
@@ -170,18 +149,21 @@ fn plan_fits(p: Plan, hebap: &[u8], start: usize, end: usize, x: &[f32]) -> bool
             + gains::gain_word_bits(mode, count as u32)
 }
 
-// The lowest of causes 1 to 6 that holds, 0 where the plan fits.
-pub fn plan_cause(p: Plan, hebap: &[u8], start: usize, end: usize, x: &[f32]) -> u8
-    ensures { result ≡ plan_cause p hebap.now start end x.now }
+// Refuses with the lowest of causes 1 to 6 that holds.
+pub fn check_plan(
+    p: Plan,
+    hebap: &[u8],
+    start: usize,
+    end: usize,
+    x: &[f32],
+) -> Result<(), Refusal>
+    ensures { result ≡ answered (plan_cause p hebap.now start end x.now) tt }
 {
-    let k = cause(hebap, start, end, x);
-    if k != 0 {
-        return k;
+    check_channel(hebap, start, end, x)?;
+    if !plan_fits(p, hebap, start, end, x) {
+        return Err(Refusal::PlanMisfit);
     }
-    if plan_fits(p, hebap, start, end, x) {
-        return answers::NONE;
-    }
-    answers::PLAN_MISFIT
+    Ok(())
 }
 
 // The bits of the bin at its gain; the gain counts where the bin is active.
