@@ -1,5 +1,5 @@
 -- Why a call refuses: the causes by their numbers in docs/FORMAT.md, Causes and refusals.
-use Rattle.std.specs.Prelude.{ℕ, Bool, true, false, Option, None, Some}
+use Rattle.std.specs.Prelude.{ℕ, Option, None, Some}
 use Rattle.answers.specs.declared.Refusal.{Refusal}
 use Rattle.answers.specs.declared.Refusal.TheVariants.{StartAboveEnd, EndAbove256, TooShort, HebapAbove19, Component, PlanMisfit, OutputFull, InputEnds, GroupWord, UnusedCode, NoQuantiser, OutOfRange, Text}
 
@@ -41,7 +41,7 @@ abbrev pub first_of : Option Refusal → Option Refusal → Option Refusal
 first_of None d = d
 first_of (Some k) d = Some k
 
--- a cause, where it holds
-abbrev pub cause_if : Bool → Refusal → Option Refusal
-cause_if true k = Some k
-cause_if false k = None
+-- what stands in a place afterwards: the new value where no cause holds, and the old one else
+abbrev pub afterwards : {A : Type 0} → Option Refusal → A → A → A
+afterwards None new old = new
+afterwards (Some k) new old = old

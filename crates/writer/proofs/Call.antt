@@ -17,8 +17,9 @@ use Rattle.planner.specs.declared.Plan.{Plan}
 use Rattle.planner.specs.Choice.{Choice}
 use Rattle.planner.specs.Planning.{total_of}
 use Rattle.planner.specs.Fit.{plan_cause}
-use Rattle.writer.specs.declared.ChannelWrite.{ChannelWrite}
-use Rattle.writer.specs.declared.ChannelWrite.TheVariants.{Done}
+use Rattle.std.specs.Prelude.{None, Some, Result, Ok, Err}
+use Rattle.answers.specs.declared.Refusal.{Refusal}
+use Rattle.answers.specs.declared.Refusal.TheVariants.{OutputFull}
 use Rattle.writer.specs.Written.{written_of, field_of, write_cause, write_cause_up_to, channel_write, channel_write_up_to, channel_written, channel_written_up_to}
 use Rattle.writer.specs.Work.{Room, Puts, bins_enc, gains_enc}
 use Rattle.writer.proofs.Turns.{place_is, puts_long, puts_bit, puts_both}
@@ -68,29 +69,26 @@ module _ (mode : ℕ) (gains row : List ℕ) (x : List Float) (start end : ℕ) 
             subst (λ (bs : List Bool). Puts bs p z s v) (sym whole_is) (puts_both f (second ++ third) z v (omega arith) (puts_both g third z v (omega arith) h))
 
 -- ---- the call
-pub not_both : (r : ChannelWrite) (k : ℕ) (q : BitPos) → r ≡ ChannelWrite.Refused k → r ≡ Done q → ⊥
-not_both r k q e f = let z : ◌≡◌ {A = ℕ} 0 1 = cc in omega arith
-
 module _ (p : Plan) (row : List ℕ) (start end : ℕ) (x : List Float) (out : List ℕ) (at : ℕ) where
-  abbrev pub Answers : ChannelWrite → List ℕ → Type 0
+  abbrev pub Answers : Result BitPos Refusal → List ℕ → Type 0
   Answers r e = (r ≡ channel_write p row start end x out at) × (e ≡ channel_written p row start end x out at)
 
-  refused_with : (k : ℕ) → write_cause p row start end x (8 * length out) at ≡ k → (k ≡ 0 → ⊥) → Answers (ChannelWrite.Refused k) out
+  refused_with : (k : Refusal) → write_cause p row start end x (8 * length out) at ≡ Some k → Answers (Err k) out
   unfolding channel_write_up_to channel_written_up_to
-  refused_with k e n = rw (e, ne_eqb k 0 n) (refl, refl)
+  refused_with k e = rw e (refl, refl)
 
-  pub call_cause : (k : ℕ) → k ≡ plan_cause p row start end x → (k ≡ 0 → ⊥) → Answers (ChannelWrite.Refused k) out
+  pub call_cause : (k : Refusal) → plan_cause p row start end x ≡ Some k → Answers (Err k) out
   unfolding write_cause_up_to
-  call_cause k e n = refused_with k (rw (sym e, ne_eqb k 0 n)) n
+  call_cause k e = refused_with k (rw e)
 
-  module _ (none : plan_cause p row start end x ≡ 0) where
-    pub call_short : 8 * length out < at + total_of p → Answers (ChannelWrite.Refused 7) out
+  module _ (none : plan_cause p row start end x ≡ None) where
+    pub call_short : 8 * length out < at + total_of p → Answers (Err OutputFull) out
     unfolding write_cause_up_to
-    call_short h = refused_with 7 (rw (none, lt-leb (at + total_of p) (8 * length out) h)) (λ e. omega arith)
+    call_short h = refused_with OutputFull (rw (none, lt-leb (at + total_of p) (8 * length out) h))
 
     pub call_good : at + total_of p ≤ 8 * length out → (q r : BitPos) (e : List ℕ) → bit_at q ≡ at → length (field_of p row start end x) ≡ total_of p → Puts (field_of p row start end x) q r out e
-        → Answers (Done r) e
+        → Answers (Ok r) e
     unfolding write_cause_up_to channel_write_up_to channel_written_up_to
     call_good h q r e i l w =
         let n : bit_at q + length (field_of p row start end x) ≡ at + total_of p = omega arith in
-        rw (none, le-leb (at + total_of p) (8 * length out) h) (ap Done (w.place ∙ ap pos_of n), w.bytes ∙ ap (λ (k : ℕ). bytes_with out k (field_of p row start end x)) i)
+        rw (none, le-leb (at + total_of p) (8 * length out) h) (ap Ok (w.place ∙ ap pos_of n), w.bytes ∙ ap (λ (k : ℕ). bytes_with out k (field_of p row start end x)) i)

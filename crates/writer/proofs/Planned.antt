@@ -18,49 +18,54 @@ use Rattle.channel.specs.Field.{lenient}
 use Rattle.channel.proofs.Laws.{lenient_laws}
 use Rattle.channel.proofs.Most.{field_most}
 use Rattle.planner.specs.Choice.{choice_bits, Choice}
-use Rattle.planner.specs.Planning.{too_large_at, cause_of, planned, total_of, gains_of}
+use Rattle.planner.specs.Planning.{too_large_at, cause_of, planned, plan_answered, total_of, gains_of}
 use Rattle.planner.specs.Work.{Within}
 use Rattle.planner.specs.Fit.{plan_fits, plan_cause}
 use Rattle.planner.specs.declared.Plan.{Plan}
-use Rattle.planner.proofs.Answer.{cause_none, refusal_is, answer_fits, answer_choice, first_none, fine, plan_cause_fit, plan_cause_none, fitting}
-use Rattle.writer.specs.declared.ChannelWrite.TheVariants.{Done}
+use Rattle.planner.proofs.Answer.{cause_none, refusal_is, answer_fits, answer_choice, fine, plan_cause_fit, plan_cause_none, fitting}
+use Rattle.std.specs.Prelude.{Option, None, Some, Result, Ok, Err}
+use Rattle.answers.specs.Answers.{answer_number}
+use Rattle.answers.specs.Causes.{cause_number, afterwards}
+use Rattle.answers.specs.declared.Refusal.{Refusal}
+use Rattle.answers.specs.declared.Refusal.TheVariants.{OutputFull}
+use Rattle.answers.proofs.Numbers.{first_none, no_number}
 use Rattle.writer.specs.Written.{written_of, field_of, write_cause, write_cause_up_to, channel_write, channel_written, channel_written_up_to}
 use Rattle.writer.proofs.Channel.{channel_ok, channel_long}
 use Rattle.writer.proofs.Call.{call_good}
 
 -- ---- any plan
 module _ (p : Plan) (row : List ℕ) (start end : ℕ) (x : List Float) (places : length p.gains ≡ 256) where
-  pub fits_long : cause_of row start end x ≡ 0 → plan_fits p row start end x ≡ true → length (field_of p row start end x) ≡ total_of p
+  pub fits_long : cause_of row start end x ≡ None → plan_fits p row start end x ≡ true → length (field_of p row start end x) ≡ total_of p
   fits_long none fits =
       let f = fitting p row start end x places none fits in
       channel_long p.mode (gains_of p) row x start end f.within f.inside f.choice ∙ f.bits
 
   -- The greatest field: no plan that fits has more than 31,152 bits.
-  pub fits_most : cause_of row start end x ≡ 0 → plan_fits p row start end x ≡ true → total_of p ≤ 31152
+  pub fits_most : cause_of row start end x ≡ None → plan_fits p row start end x ≡ true → total_of p ≤ 31152
   fits_most none fits =
       let f = fitting p row start end x places none fits in
       let o = channel_ok p.mode (gains_of p) row x start end f.within f.inside f.choice in
       le_trans (le_of_eq (sym (fits_long none fits))) (field_most lenient lenient_laws row start end (written_of p.mode (gains_of p) row x start end) o f.within.row_ok.few)
 
   -- where something is written, no cause holds
-  pub written_when : (n at : ℕ) → write_cause p row start end x n at ≡ 0 → (cause_of row start end x ≡ 0) × (plan_fits p row start end x ≡ true) × (at + total_of p ≤ n)
+  pub written_when : (n at : ℕ) → write_cause p row start end x n at ≡ None → (cause_of row start end x ≡ None) × (plan_fits p row start end x ≡ true) × (at + total_of p ≤ n)
   unfolding write_cause_up_to
   written_when n at h =
       let c = first_none (plan_cause p row start end x) _ h in
       let f = plan_cause_none p row start end x c.0 in
-      (f.0, f.1, leb-true _ _ (fine (leb (at + total_of p) n) 7 (λ e. omega arith) c.1))
+      (f.0, f.1, leb-true _ _ (fine (leb (at + total_of p) n) OutputFull c.1))
 
   -- A bit outside the field is as it was before, whatever the call answers.
   pub outside_kept : (out : List ℕ) (at : ℕ)
       → (take at (bits_of (channel_written p row start end x out at)) ≡ take at (bits_of out))
       × (drop (at + total_of p) (bits_of (channel_written p row start end x out at)) ≡ drop (at + total_of p) (bits_of out))
   unfolding channel_written_up_to
-  outside_kept out at = go (eqb (write_cause p row start end x (8 * length out) at) 0) refl
+  outside_kept out at = go (write_cause p row start end x (8 * length out) at) refl
     where
-      go : (t : Bool) → eqb (write_cause p row start end x (8 * length out) at) 0 ≡ t → let after = cond t (bytes_with out at (field_of p row start end x)) out in
+      go : (k : Option Refusal) → write_cause p row start end x (8 * length out) at ≡ k → let after = afterwards k (bytes_with out at (field_of p row start end x)) out in
           (take at (bits_of after) ≡ take at (bits_of out)) × (drop (at + total_of p) (bits_of after) ≡ drop (at + total_of p) (bits_of out))
-      go true e =
-          let w = written_when (8 * length out) at (eqb-true _ _ e) in
+      go None e =
+          let w = written_when (8 * length out) at e in
           let f = field_of p row start end x in
           let l = fits_long w.0 w.1 in
           let r = w.2 in
@@ -70,15 +75,15 @@ module _ (p : Plan) (row : List ℕ) (start end : ℕ) (x : List Float) (places 
             ap (drop (at + total_of p)) b ∙ ap (λ (k : ℕ). drop (at + k) (splice (bits_of out) at f)) (sym l)
                 ∙ splice_after (bits_of out) f at (omega arith) ∙ ap (λ (k : ℕ). drop (at + k) (bits_of out)) l,
           )
-      go false e = (refl, refl)
+      go (Some k) e = (refl, refl)
 
 -- ---- the planner's plan
-module _ (row : List ℕ) (start end : ℕ) (x : List Float) (given : (planned row start end x).refusal ≡ 0) where
+module _ (row : List ℕ) (start end : ℕ) (x : List Float) (given : answer_number (planned row start end x) ≡ 0) where
   abbrev p : Plan
-  p = (planned row start end x).plan
+  p = plan_answered row start end x
 
-  pub no_cause : cause_of row start end x ≡ 0
-  no_cause = sym (refusal_is row start end x) ∙ given
+  pub no_cause : cause_of row start end x ≡ None
+  no_cause = no_number (cause_of row start end x) (sym (refusal_is row start end x) ∙ given)
 
   pub within : Within row start end x
   within = (cause_none row start end x no_cause).0
@@ -105,10 +110,10 @@ module _ (row : List ℕ) (start end : ℕ) (x : List Float) (given : (planned r
       (field_most lenient lenient_laws row start end (written_of p.mode (gains_of p) row x start end) (channel_ok p.mode (gains_of p) row x start end within inside choice) within.row_ok.few)
 
   pub is_written : (out : List ℕ) (at : ℕ) → at + total_of p ≤ 8 * length out
-      → (channel_write p row start end x out at ≡ Done (pos_of (at + total_of p))) × (channel_written p row start end x out at ≡ bytes_with out at (field_of p row start end x))
+      → (channel_write p row start end x out at ≡ Ok (pos_of (at + total_of p))) × (channel_written p row start end x out at ≡ bytes_with out at (field_of p row start end x))
   is_written out at space =
       let a = at_pos at in
       let w =
-      call_good p row start end x out at (sym (plan_cause_fit p row start end x true no_cause (sym fits))) space (pos_of at) (pos_of (at + total_of p)) (bytes_with out at (field_of p row start end x)) a field_long
+      call_good p row start end x out at (plan_cause_fit p row start end x true no_cause (sym fits)) space (pos_of at) (pos_of (at + total_of p)) (bytes_with out at (field_of p row start end x)) a field_long
       (record { place = rw (a, field_long); bytes = rw a }) in
       (sym w.0, sym w.1)

@@ -10,8 +10,6 @@ use lib.ListN.{length, length-append}
 use Rattle.bits.specs.Bits.{bits_n, bit_at, pos_of}
 use Rattle.bits.specs.Format.{number}
 use Rattle.bits.specs.declared.BitPos.{BitPos}
-use Rattle.bits.specs.declared.BitMove.{BitMove}
-use Rattle.bits.specs.declared.BitMove.TheVariants.{Done}
 use Rattle.bits.proofs.Laws.{Bytes, bits_n_cat, length_with, with_none, with_more}
 use Rattle.tables.specs.Tables.{mant_bits}
 use Rattle.tables.proofs.Rules.{mant_bits_lem}
@@ -22,13 +20,7 @@ use Rattle.levels.proofs.CodeLaws.{coded_one, coded_tagged}
 use Rattle.levels.proofs.Signed.{small_width, large_width}
 use Rattle.writer.specs.Work.{Room, Puts}
 
--- ---- the answer of write_u32
-pub same_done : (r : BitMove) (p q : BitPos) → r ≡ Done p → r ≡ Done q → p ≡ q
-same_done r p q e f = cc
-
-pub not_refused : (r : BitMove) (k : ℕ) (q : BitPos) → r ≡ BitMove.Refused k → r ≡ Done q → ⊥
-not_refused r k q e f = let z : ◌≡◌ {A = ℕ} 0 1 = cc in omega arith
-
+-- ---- positions
 pub bit_of_lem : (k : ℕ) → bit_at (pos_of k) ≡ k
 bit_of_lem k = omega arith
 

@@ -1,7 +1,10 @@
 -- What is written of a plan: its mode, its gains, and for each bin the search's index or the quantiser's codes.
 -- docs/FORMAT.md, Writer.
-use Rattle.std.specs.Prelude.{ℕ, ◌+◌, ◌*◌, Bool, cond, List, map, Float, eqb, leb, length}
-use Rattle.answers.specs.Causes as cause
+use Rattle.std.specs.Prelude.{ℕ, ◌+◌, ◌*◌, Bool, cond, List, map, Float, leb, length, Option, None, Some, Result}
+use Rattle.answers.specs.Answers.{answered}
+use Rattle.answers.specs.Causes.{first_of, afterwards}
+use Rattle.answers.specs.declared.Refusal.{Refusal}
+use Rattle.answers.specs.declared.Refusal.TheVariants.{OutputFull}
 use Rattle.bits.specs.Bits.{pos_of, bytes_with}
 use Rattle.bits.specs.declared.BitPos.{BitPos}
 use Rattle.levels.specs.declared.Code.{Code}
@@ -14,8 +17,6 @@ use Rattle.planner.specs.declared.Plan.{Plan}
 use Rattle.levels.specs.Component.{largest_size}
 use Rattle.planner.specs.Planning.{total_of, gains_of}
 use Rattle.planner.specs.Fit.{plan_cause_up_to}
-use Rattle.writer.specs.declared.ChannelWrite.{ChannelWrite}
-use Rattle.writer.specs.declared.ChannelWrite.TheVariants.{Done}
 
 -- the quantiser's codes for components
 abbrev pub codes_of : ℕ → ℕ → List Float → List Code
@@ -39,37 +40,26 @@ written_of mode gains row x start end = record { mode = mode; gains = gains; ite
 abbrev pub field_of : Plan → List ℕ → ℕ → ℕ → List Float → List Bool
 field_of p row start end x = (field row start end).enc (written_of p.mode (gains_of p) row x start end)
 
--- causes 1 to 7 for the position at of n bits: the lowest that holds, 0 where none does
-unfoldable pub write_cause_up_to : ℕ → Plan → List ℕ → ℕ → ℕ → List Float → ℕ → ℕ → ℕ
+-- causes 1 to 7 for the position at of n bits: the lowest that holds, if one does
+unfoldable pub write_cause_up_to : ℕ → Plan → List ℕ → ℕ → ℕ → List Float → ℕ → ℕ → Option Refusal
 write_cause_up_to limit p row start end x n at =
-    cause.first_of (plan_cause_up_to limit p row start end x) (cond (leb (at + total_of p) n) cause.none cause.output_full)
+    first_of (plan_cause_up_to limit p row start end x) (cond (leb (at + total_of p) n) None (Some OutputFull))
 
 -- the answer: the position behind the field, or the refusal
-unfoldable pub channel_write_up_to : ℕ → Plan → List ℕ → ℕ → ℕ → List Float → List ℕ → ℕ → ChannelWrite
+unfoldable pub channel_write_up_to : ℕ → Plan → List ℕ → ℕ → ℕ → List Float → List ℕ → ℕ → Result BitPos Refusal
 channel_write_up_to limit p row start end x out at =
-    cond (eqb (write_cause_up_to limit p row start end x (8 * length out) at) 0)
-    (Done (pos_of (at + total_of p)))
-    (ChannelWrite.Refused (write_cause_up_to limit p row start end x (8 * length out) at))
-
--- its number, and the position; p is what stood there before where it refuses
-abbrev pub write_number : ChannelWrite → ℕ
-write_number (ChannelWrite.Done q) = 0
-write_number (ChannelWrite.Refused n) = n
-
-abbrev pub write_place : BitPos → ChannelWrite → BitPos
-write_place p (ChannelWrite.Done q) = q
-write_place p (ChannelWrite.Refused n) = p
+    answered (write_cause_up_to limit p row start end x (8 * length out) at) (pos_of (at + total_of p))
 
 -- the output afterwards: with the field from the position on, or as it was
 unfoldable pub channel_written_up_to : ℕ → Plan → List ℕ → ℕ → ℕ → List Float → List ℕ → ℕ → List ℕ
 channel_written_up_to limit p row start end x out at =
-    cond (eqb (write_cause_up_to limit p row start end x (8 * length out) at) 0) (bytes_with out at (field_of p row start end x)) out
+    afterwards (write_cause_up_to limit p row start end x (8 * length out) at) (bytes_with out at (field_of p row start end x)) out
 
 -- at the limit that holds
-abbrev pub write_cause : Plan → List ℕ → ℕ → ℕ → List Float → ℕ → ℕ → ℕ
+abbrev pub write_cause : Plan → List ℕ → ℕ → ℕ → List Float → ℕ → ℕ → Option Refusal
 write_cause = write_cause_up_to largest_size
 
-abbrev pub channel_write : Plan → List ℕ → ℕ → ℕ → List Float → List ℕ → ℕ → ChannelWrite
+abbrev pub channel_write : Plan → List ℕ → ℕ → ℕ → List Float → List ℕ → ℕ → Result BitPos Refusal
 channel_write = channel_write_up_to largest_size
 
 abbrev pub channel_written : Plan → List ℕ → ℕ → ℕ → List Float → List ℕ → ℕ → List ℕ

@@ -11,16 +11,10 @@ ghost use Rattle.planner.specs.Work.{Within};
 ghost use Rattle.writer.specs.Written.{written_of, channel_write, channel_written};
 ghost use Rattle.writer.specs.Work.{Room, Puts, bin_enc, bins_enc, gains_enc, code_from};
 
-use bits::{BitMove, BitPos};
+use answers::Refusal;
+use bits::BitPos;
 use gains::Coding;
 use planner::Plan;
-
-// What write_aht_channel answers: the position behind the field, or the number of the refusal.
-#[derive(Clone, Copy)]
-pub enum ChannelWrite {
-    Done(BitPos),
-    Refused(u8),
-}
 
 // The low n bits of v, where there is room for them; the position behind them.
 fn put(out: &mut [u8], p: BitPos, v: u32, n: u32) -> BitPos
@@ -28,10 +22,7 @@ fn put(out: &mut [u8], p: BitPos, v: u32, n: u32) -> BitPos
     requires room { Room (bits_n n v) p out.old }
     ensures { Puts (bits_n n v) p result out.old out.new }
 {
-    match p.write_u32(&mut *out, v, n) {
-        BitMove::Done(q) => q,
-        BitMove::Refused(_) => p,
-    }
+    p.write_u32(&mut *out, v, n).unwrap()
 }
 
 // The quantiser's codes for the six components of a bin, where there is room for them; the position behind them.
@@ -274,19 +265,14 @@ pub fn write_aht_channel(
     x: &[f32],
     out: &mut [u8],
     pos: BitPos,
-) -> ChannelWrite
+) -> Result<BitPos, Refusal>
     ensures value { result ≡ channel_write plan hebap.now start end x.now out.old (bit_at pos) }
     ensures out_after { out.new ≡ channel_written plan hebap.now start end x.now out.old (bit_at pos) }
 {
-    let cause = planner::plan_cause(plan, hebap, start, end, x);
-    if cause != 0 {
-        return ChannelWrite::Refused(cause);
-    }
+    planner::check_plan(plan, hebap, start, end, x)?;
     if !pos.has_bits(out.len(), 1, 2 + plan.payload as usize) {
-        return ChannelWrite::Refused(answers::OUTPUT_FULL);
+        return Err(Refusal::OutputFull);
     }
-    let mode = plan.mode;
-    let count = plan.count;
-    let gains = plan.gains;
-    ChannelWrite::Done(write_choice(out, pos, mode, &gains[..count], hebap, start, end, x))
+    let gains = &plan.gains[..plan.count];
+    Ok(write_choice(out, pos, plan.mode, gains, hebap, start, end, x))
 }

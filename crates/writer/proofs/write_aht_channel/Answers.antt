@@ -6,6 +6,8 @@ use Prim.Native.Nat.{◌+◌, ◌*◌, ◌≤◌, ◌<◌}
 use mathlib.Core.Path.{◌≡◌, refl, sym, ◌∙◌}
 use lib.ListN.{length}
 use lib.Seq.{length-take-le}
+use Rattle.std.specs.Prelude.{None}
+use Rattle.answers.proofs.Numbers.{passed_on, held, none_held}
 use Rattle.bits.specs.Bits.{bit_at}
 use Rattle.planner.specs.Planning.{total_of}
 use Rattle.planner.specs.Fit.{plan_cause}
@@ -14,18 +16,18 @@ use Rattle.writer.specs.Written.{field_of}
 use Rattle.writer.proofs.Planned.{fits_long}
 use Rattle.writer.proofs.Call.{call_cause, call_short, call_good}
 use Rattle.writer.proofs.write_aht_channel.Goals as goal
-use Rattle.writer.proofs.write_aht_channel.Goals.{Else-cause-ne0, Else-not-has_bits}
+use Rattle.writer.proofs.write_aht_channel.Goals.{In_ok-check_plan, Else-not-has_bits}
 
 -- no cause stands against the plan
-none : (c : Else-cause-ne0) → let a = c.args in plan_cause a.plan a.hebap.now a.start a.end a.x.now ≡ 0
-none c = sym c.plan_cause-cause.ensures ∙ c.if-cause-ne0.false
+none : (c : In_ok-check_plan) → let a = c.args in plan_cause a.plan a.hebap.now a.start a.end a.x.now ≡ None
+none c = none_held _ _ c.check_plan.ensures c.in_ok-check_plan.was
 
 -- so it fits
-fit : (c : Else-cause-ne0) → let a = c.args in Fitting a.plan a.hebap.now a.start a.end a.x.now
+fit : (c : In_ok-check_plan) → let a = c.args in Fitting a.plan a.hebap.now a.start a.end a.x.now
 fit c = let a = c.args in plan_fitting a.plan a.hebap.now a.start a.end a.x.now (search rules) (none c)
 
 -- and its field is as long as its total
-long : (c : Else-cause-ne0) → let a = c.args in length (field_of a.plan a.hebap.now a.start a.end a.x.now) ≡ total_of a.plan
+long : (c : In_ok-check_plan) → let a = c.args in length (field_of a.plan a.hebap.now a.start a.end a.x.now) ≡ total_of a.plan
 long c =
     let a = c.args in
     let f = plan_cause_none a.plan a.hebap.now a.start a.end a.x.now (none c) in
@@ -38,34 +40,34 @@ room c =
     let h : bit_at a.pos + 1 * total_of a.plan ≤ 8 * length a.out.now = leb-true _ _ (sym c.has_bits.ensures ∙ c.if-not-has_bits.false) in
     omega arith
 
-pub returns-then-cause-ne0 : goal.returns-then-cause-ne0
-returns-then-cause-ne0 c =
+pub returns-in_err-check_plan : goal.returns-in_err-check_plan
+returns-in_err-check_plan c =
     let a = c.args in
-    let both = call_cause a.plan a.hebap.now a.start a.end a.x.now a.out.now (bit_at a.pos) _ c.plan_cause-cause.ensures c.if-cause-ne0.true in
-    record { value = both.0; out_after = both.1 }
+    let both = call_cause a.plan a.hebap.now a.start a.end a.x.now a.out.now (bit_at a.pos) _ (held _ _ c.check_plan.ensures c.in_err-check_plan.was) in
+    rw (passed_on c.from_residual.ensures) record { value = both.0; out_after = both.1 }
 
 pub returns-then-not-has_bits : goal.returns-then-not-has_bits
 returns-then-not-has_bits c =
     let a = c.args in
     let over : 8 * length a.out.now < bit_at a.pos + 1 * total_of a.plan = leb-false _ _ (sym c.has_bits.ensures ∙ c.if-not-has_bits.true) in
-    let both = call_short a.plan a.hebap.now a.start a.end a.x.now a.out.now (bit_at a.pos) (none (goal.at.returns-then-not-has_bits c).Else-cause-ne0) (omega arith) in
+    let both = call_short a.plan a.hebap.now a.start a.end a.x.now a.out.now (bit_at a.pos) (none (goal.at.returns-then-not-has_bits c).In_ok-check_plan) (omega arith) in
     record { value = both.0; out_after = both.1 }
 
 pub slice_bounds-gains-end : goal.slice_bounds-gains-end
-slice_bounds-gains-end c = (fit (goal.at.slice_bounds-gains-end c).Else-cause-ne0).room
+slice_bounds-gains-end c = sym (length-take-le c.args.plan.count c.args.plan.gains (fit (goal.at.slice_bounds-gains-end c).In_ok-check_plan).room)
 
-pub slice_bounds-write_choice-end : goal.slice_bounds-write_choice-end
-slice_bounds-write_choice-end c = sym (length-take-le c.args.plan.count c.args.plan.gains (fit (goal.at.slice_bounds-write_choice-end c).Else-cause-ne0).room)
+pub shared_ref_as_front-gains : goal.shared_ref_as_front-gains
+shared_ref_as_front-gains c = let r = (fit (goal.at.shared_ref_as_front-gains c).In_ok-check_plan).room in search rules
 
 pub write_choice-requires : goal.write_choice-requires
 write_choice-requires c =
     let d = goal.at.write_choice-requires c in
-    let f = fit d.Else-cause-ne0 in
-    record { within = f.within; choice = f.choice; room = omega (arith, long d.Else-cause-ne0, room d.Else-not-has_bits) }
+    let f = fit d.In_ok-check_plan in
+    record { within = f.within; choice = f.choice; room = omega (arith, long d.In_ok-check_plan, room d.Else-not-has_bits) }
 
 pub returns : goal.returns
 returns c =
     let a = c.args in
     let d = goal.at.returns c in
-    let both = call_good a.plan a.hebap.now a.start a.end a.x.now a.out.now (bit_at a.pos) (none d.Else-cause-ne0) (room d.Else-not-has_bits) a.pos _ _ refl (long d.Else-cause-ne0) c.write_choice.ensures in
+    let both = call_good a.plan a.hebap.now a.start a.end a.x.now a.out.now (bit_at a.pos) (none d.In_ok-check_plan) (room d.Else-not-has_bits) a.pos _ _ refl (long d.In_ok-check_plan) c.write_choice.ensures in
     record { value = both.0; out_after = both.1 }
