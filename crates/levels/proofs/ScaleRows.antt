@@ -20,7 +20,7 @@ use Rattle.tables.proofs.Tests.{each, each_at}
 use Rattle.tables.proofs.Rules.{mant_bits_lem}
 use Rattle.levels.specs.declared.CodeScale.{CodeScale}
 use Rattle.levels.specs.Exact.{slope, offset_by_sign}
-use Rattle.levels.specs.Work.{remap_of, scale_of, IsScale, row_of, scale_at, ScalesLoaded}
+use Rattle.levels.specs.Work.{remap_of, scale_of, IsScale, row_of, scale_at, AreScales}
 use Rattle.levels.proofs.Sizes.{abs_mul, abs_neg, unit_size, offset_size}
 use Rattle.levels.proofs.Common.{scale_is, small_unit_is, large_unit_is, up_is, below_is}
 
@@ -89,8 +89,8 @@ no_nan : (b : Bool) → T (not b) → b ≡ false
 no_nan true t = absurd t
 no_nan false t = refl
 
-pub scales_loaded : (t : List ℕ) → length t ≡ 396 → T (each number t) → T (number 0) → listed (rows t) 12 8 ≡ listed scales 12 8 → ScalesLoaded t
-scales_loaded t w n z e = record { whole = w; numbers = λ i. no_nan _ (each_at number t n 0 z i); each = row_is t e }
+pub are_scales : (t : List ℕ) → length t ≡ 396 → T (each number t) → T (number 0) → listed (rows t) 12 8 ≡ listed scales 12 8 → AreScales t
+are_scales t w n z e = record { whole = w; numbers = λ i. no_nan _ (each_at number t n 0 z i); each = row_is t e }
 
 -- ---- a number's negative
 pub neg_is : (n : ℕ) → pos 0 -ℤ pos n ≡ neg_ℤ (pos n)
@@ -112,9 +112,9 @@ row_end h g l u = go (eqb g 1) (eqb g 2)
     go false true = omega arith
     go false false = omega arith
 
-module _ (t : List ℕ) (loaded : ScalesLoaded t) (h g : ℕ) (low : 8 ≤ h) (high : h ≤ 19) (i : ℕ) (place : i ≡ row_of h g) where
+module _ (t : List ℕ) (all : AreScales t) (h g : ℕ) (low : 8 ≤ h) (high : h ≤ 19) (i : ℕ) (place : i ≡ row_of h g) where
   is : scale_at t i h g ≡ scale_of h g
-  is = rw place (loaded.each h g low high)
+  is = rw place (all.each h g low high)
 
   row_scale : IsScale (scale_at t i h g)
   row_scale = scale_is h g low high (scale_at t i h g) is

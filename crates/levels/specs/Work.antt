@@ -46,7 +46,7 @@ pub record IsScale (s : CodeScale) : Type 0 where
   pub high : s.hebap ≤ 19
   pub is : s ≡ scale_of s.hebap s.gk
 
--- ---- the same as a table, made once and lent: a row of eleven numbers for each hebap and gain
+-- ---- the same as a table: a row of eleven numbers for each hebap and gain
 -- where the row of a hebap and a gain starts
 abbrev pub row_of : ℕ → ℕ → ℕ
 row_of h g = 33 * (h - 8) + cond (eqb g 1) 0 (cond (eqb g 2) 11 22)
@@ -69,7 +69,7 @@ scale_at t i h g =
     }
 
 -- every row is the scale of its hebap and gain, and no number is a NaN's bit pattern: `from_bits` asks that
-pub record ScalesLoaded (t : List ℕ) : Type 0 where
+pub record AreScales (t : List ℕ) : Type 0 where
   pub whole : length t ≡ 396
   pub numbers : (i : ℕ) → nan_bits binary32 (get_or t i 0) ≡ false
   pub each : (h g : ℕ) → 8 ≤ h → h ≤ 19 → scale_at t (row_of h g) h g ≡ scale_of h g

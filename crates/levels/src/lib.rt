@@ -10,7 +10,7 @@ ghost use Rattle.levels.specs.Component.{too_large, some_too_large};
 ghost use Rattle.levels.specs.Codes.{signed, small_bits, large_bits, code_bits, Accepted};
 ghost use Rattle.levels.specs.Exact.{slope, offset_by_sign, exact_of};
 ghost use Rattle.levels.specs.Value.{q15, power, gaq_remap, level_of, divided, value_in, value_of};
-ghost use Rattle.levels.specs.Work.{remap_of, remap_by, scale_of, IsScale, row_of, ScalesLoaded};
+ghost use Rattle.levels.specs.Work.{remap_of, remap_by, scale_of, IsScale, row_of, AreScales};
 
 mod consts;
 
@@ -269,12 +269,11 @@ pub fn scale_of(hebap: u8, gk: u8) -> CodeScale
     }
 }
 
-// The scales of all hebaps and gains, a row each. Where many bins are read it is built once and lent: computing a
-// scale takes longer than reading a bin.
-pub fn scales() -> [u32; 396]
-    ensures { ScalesLoaded result }
+// The scales of all hebaps and gains, a row each: computing a scale takes longer than reading a bin.
+fn scales() -> &'static [u32]
+    ensures { AreScales result.now }
 {
-    consts::SCALES
+    &consts::SCALES
 }
 
 // The number k of the row from the place i on: as it stands, as a fraction, and as a whole number.
@@ -317,11 +316,11 @@ fn row_of(hebap: u8, gk: u8) -> usize
 }
 
 // The scale of a hebap and a gain, out of the table.
-pub fn scale_at(t: &[u32], hebap: u8, gk: u8) -> CodeScale
-    requires le_hebap { (8 ≤ hebap) × (hebap ≤ 19) }
-    requires scales_loaded { ScalesLoaded t.now }
+pub fn scale_at(hebap: u8, gk: u8) -> CodeScale
+    requires { (8 ≤ hebap) × (hebap ≤ 19) }
     ensures { result ≡ scale_of hebap gk }
 {
+    let t = scales();
     let i = row_of(hebap, gk);
     CodeScale {
         hebap,
