@@ -54,12 +54,12 @@ returns-then-not-has_bits c =
 pub slice_bounds-gains-end : goal.slice_bounds-gains-end
 slice_bounds-gains-end c = (fit (goal.at.slice_bounds-gains-end c).Else-cause-ne0).room
 
-pub slice_bounds-write_choice-end : goal.slice_bounds-write_choice-end
-slice_bounds-write_choice-end c = sym (length-take-le c.args.plan.count c.args.plan.gains (fit (goal.at.slice_bounds-write_choice-end c).Else-cause-ne0).room)
+pub slice_bounds-write_field-end : goal.slice_bounds-write_field-end
+slice_bounds-write_field-end c = sym (length-take-le c.args.plan.count c.args.plan.gains (fit (goal.at.slice_bounds-write_field-end c).Else-cause-ne0).room)
 
-pub write_choice-requires : goal.write_choice-requires
-write_choice-requires c =
-    let d = goal.at.write_choice-requires c in
+pub write_field-requires : goal.write_field-requires
+write_field-requires c =
+    let d = goal.at.write_field-requires c in
     let f = fit d.Else-cause-ne0 in
     record { within = f.within; choice = f.choice; room = omega (arith, long d.Else-cause-ne0, room d.Else-not-has_bits) }
 
@@ -67,5 +67,5 @@ pub returns : goal.returns
 returns c =
     let a = c.args in
     let d = goal.at.returns c in
-    let both = call_good a.plan a.hebap.now a.start a.end a.x.now a.out.now (bit_at a.pos) (none d.Else-cause-ne0) (room d.Else-not-has_bits) a.pos _ _ refl (long d.Else-cause-ne0) c.write_choice.ensures in
+    let both = call_good a.plan a.hebap.now a.start a.end a.x.now a.out.now (bit_at a.pos) (none d.Else-cause-ne0) (room d.Else-not-has_bits) a.pos _ _ refl (long d.Else-cause-ne0) c.write_field.ensures in
     record { value = both.0; out_after = both.1 }
