@@ -7,17 +7,16 @@ use native.Mathlib.Nat.{mul_assoc, mul-zero}
 use native.Mathlib.Omega.{arith}
 use lib.Dec.{eqb}
 use lib.IntN.{ℤ, pos, negsuc, neg_ℤ, ◌+ℤ◌, ◌*ℤ◌, +ℤ_idr}
-use lib.Ieee.{Float, binary32, of_int, add, mul, div, le}
+use lib.Ieee.{binary32, of_int, add, mul, div, le}
 use lib.Pow.{pow-lt}
 use mir.Syntax.{w32}
 use mir.Val.{to_z, of_z}
 use Rattle.tables.specs.Tables.{mant_bits}
 use Rattle.tables.proofs.Rules.{mant_bits_lem}
 use Rattle.levels.specs.declared.Code.{Code}
-use Rattle.levels.specs.declared.Remap.{Remap}
 use Rattle.levels.specs.declared.CodeScale.{CodeScale}
 use Rattle.levels.specs.Codes.{signed, small_bits, large_bits}
-use Rattle.levels.specs.Exact.{slope, offset, offset_below, offset_by_sign, is_negative, exact_of}
+use Rattle.levels.specs.Exact.{slope, offset_by_sign, is_negative, exact_of}
 use Rattle.levels.specs.Value.{f0, f1, power, scaled, divided, small_value, level_of, value_of}
 use Rattle.levels.specs.Work.{remap_of, remap_by, scale_of, IsScale}
 use Rattle.levels.proofs.Signed.{by_test, back, small_width, large_width}
@@ -45,27 +44,6 @@ times_assoc (pos a) (pos b) p = ap pos (sym (mul_assoc a b p))
 times_assoc (pos a) (negsuc b) p = times_neg a (suc b * p) ∙ ap (λ (n : ℕ). neg_ℤ (pos n)) (sym (mul_assoc a (suc b) p)) ∙ sym (neg_times (a * suc b) p)
 times_assoc (negsuc a) (pos b) p = ap (λ (n : ℕ). neg_ℤ (pos n)) (sym (mul_assoc (suc a) b p)) ∙ sym (neg_times (suc a * b) p)
 times_assoc (negsuc a) (negsuc b) p = neg_times_neg a (suc b * p) ∙ ap pos (sym (mul_assoc (suc a) (suc b) p))
-
--- ---- the whole from its fields
-pub all_is : (h g : ℕ) (r : Remap) (a b : ℕ) (x y : Float) (i j k l : ℤ) → r ≡ remap_of h g → a ≡ small_bits (mant_bits h) g → b ≡ large_bits (mant_bits h) g
-    → x ≡ power (mant_bits h - 1) → y ≡ power (large_bits (mant_bits h) g - 1) → i ≡ pos (2 ^ (31 - mant_bits h))
-    → j ≡ (pos 32768 +ℤ slope h g) *ℤ pos (2 ^ (cond (eqb g 2) 17 16 - mant_bits h)) → k ≡ offset h g *ℤ pos (2 ^ 15) → l ≡ offset_below h g *ℤ pos (2 ^ 15)
-    → record {
-      hebap = h;
-      gk = g;
-      remap = r;
-      small = a;
-      large = b;
-      small_part = div binary32 f1 x;
-      large_part = div binary32 f1 y;
-      small_unit = i;
-      large_unit = j;
-      up = k;
-      below = l;
-    }
-    ≡ scale_of h g
-unfolding scale_of
-all_is h g r a b x y i j k l er ea eb ex ey ei ej ek el = rw (er, ea, eb, ex, ey, ei, ej, ek, el)
 
 -- a scale that was worked out is that of the hebap and the gain that it names
 pub scale_is : (h g : ℕ) → 8 ≤ h → h ≤ 19 → (s : CodeScale) → s ≡ scale_of h g → IsScale s

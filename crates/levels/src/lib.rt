@@ -85,10 +85,7 @@ pub const LARGEST_SIZE: f32 = 16384.0;
 pub fn in_range(x: f32) -> bool
     ensures { result ≡ not (too_large x) }
 {
-    if x >= -LARGEST_SIZE {
-        return x <= LARGEST_SIZE;
-    }
-    false
+    -LARGEST_SIZE <= x && x <= LARGEST_SIZE
 }
 
 // Whether some component is not accepted. No early exit, so that the loop is vectorised.
@@ -96,10 +93,8 @@ pub fn any_too_large(x: &[f32]) -> bool
     ensures { result ≡ some_too_large x.now }
 {
     let mut found = false;
-    let mut j: usize = 0;
-    while j < x.len() {
-        found = if in_range(x[j]) { found } else { true };
-        j += 1;
+    for &component in x {
+        found |= !in_range(component);
     }
     found
 }
@@ -211,24 +206,6 @@ fn times(x: i32, y: i32) -> i32
     x * y
 }
 
-// 1 + a, in units of 2^-15
-fn one_plus_slope(hebap: u8, gk: u8) -> i32
-    requires { (8 ≤ hebap) × (hebap ≤ 19) }
-    ensures { result ≡ pos 32768 +ℤ slope hebap gk }
-{
-    32768 + slope_at(hebap, gk) as i32
-}
-
-// 2^(17 - m) at Gk 2, 2^(16 - m) else
-#[tactic(auto, using(tables::proofs::Rules::mant_bits_lem))]
-fn power_at(hebap: u8, gk: u8) -> i32
-    requires { (8 ≤ hebap) × (hebap ≤ 19) }
-    ensures { result ≡ pos (2 ^ (cond (eqb gk 2) 17 16 - mant_bits hebap)) }
-{
-    let most: u32 = if gk == 2 { 17 } else { 16 };
-    bits::pow2(most - mant(hebap)) as i32
-}
-
 // ---- many codes of one hebap and gain
 
 // What they have in common: the remap; the bits of small and of large codes; the fractions 1 / 2^(m-1) and, for
@@ -246,27 +223,6 @@ pub struct CodeScale {
     pub large_unit: i32,
     pub up: i32,
     pub below: i32,
-}
-
-pub fn scale_of(hebap: u8, gk: u8) -> CodeScale
-    requires { (8 ≤ hebap) × (hebap ≤ 19) }
-    ensures { result ≡ scale_of hebap gk }
-{
-    let m = mant(hebap);
-    let large = large_bits(m, gk);
-    CodeScale {
-        hebap,
-        gk,
-        remap: remap_of(hebap, gk),
-        small: small_bits(m, gk),
-        large,
-        small_part: 1.0 / scale(m - 1),
-        large_part: 1.0 / scale(large - 1),
-        small_unit: bits::pow2(31 - m) as i32,
-        large_unit: times(one_plus_slope(hebap, gk), power_at(hebap, gk)),
-        up: times(offset_by_sign(hebap, gk, false) as i32, 32768),
-        below: times(offset_by_sign(hebap, gk, true) as i32, 32768),
-    }
 }
 
 // The scales of all hebaps and gains, a row each: computing a scale takes longer than reading a bin.

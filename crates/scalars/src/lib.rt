@@ -270,7 +270,7 @@ fn read_values(
     ensures value { result ≡ move_answer (8 * length src.now) (values_read hebap gk (drop (bit_at pos) (bits_of src.now))) }
     ensures out_after { out.new ≡ scalars_after out.old (values_read hebap gk (drop (bit_at pos) (bits_of src.now))) }
 {
-    let s = levels::scale_of(hebap, gk);
+    let s = levels::scale_at(hebap, gk);
     let r = read_each(s, src, pos, 0, &mut *values, &mut *exact);
     match r {
         BitMove::Refused(k) => BitMove::Refused(k),

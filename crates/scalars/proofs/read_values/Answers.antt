@@ -12,18 +12,18 @@ use Rattle.scalars.proofs.read_values.Goals as goal
 
 pub read_each-r-requires : goal.read_each-r-requires
 read_each-r-requires c = let l = c.requires.out_len in
-    record { scale = scale_is c.args.hebap c.args.gk c.requires.le_hebap.0 c.requires.le_hebap.1 _ c.scale_of-s.ensures; inside = c.requires.inside; at_in_bounds = (omega arith, omega arith) }
+    record { scale = scale_is c.args.hebap c.args.gk c.requires.le_hebap.0 c.requires.le_hebap.1 _ c.scale_at-s.ensures; inside = c.requires.inside; at_in_bounds = (omega arith, omega arith) }
 
 pub returns-in-Refused : goal.returns-in-Refused
 returns-in-Refused c = let a = c.args in
     let bs = drop (bit_at a.pos) (bits_of a.src.now) in
-    let n = scale_names a.hebap a.gk _ c.scale_of-s.ensures in
+    let n = scale_names a.hebap a.gk _ c.scale_at-s.ensures in
     let e = rw (n.0, n.1) at c.read_each-r.ensures.value in let both = values_none a.hebap a.gk (8 * length a.src.now) bs a.out.now _ ((six (mant_bits a.hebap) a.gk).dec bs) (sym c.in-Refused.is ∙ e) in record { value = both.0; out_after = both.1 }
 
 pub returns-in-Done : goal.returns-in-Done
 returns-in-Done c = let a = c.args in
     let bs = drop (bit_at a.pos) (bits_of a.src.now) in
-    let n = scale_names a.hebap a.gk _ c.scale_of-s.ensures in
+    let n = scale_names a.hebap a.gk _ c.scale_at-s.ensures in
     let d = rw (n.0, n.1) at c.read_each-r.ensures in
     let e =
     values_all a.hebap a.gk (8 * length a.src.now) bs a.out.now _ a.values.now _ ((six (mant_bits a.hebap) a.gk).dec bs) refl (sym c.in-Done.is ∙ d.value) d.values_after c.requires.out_len.1 in
