@@ -161,16 +161,7 @@ fn distance(
 fn any_less(a: f32, b: f32, c: f32, d: f32, least: f32) -> bool
     ensures { result ≡ (lt a least || (lt b least || (lt c least || lt d least))) }
 {
-    if a < least {
-        return true;
-    }
-    if b < least {
-        return true;
-    }
-    if c < least {
-        return true;
-    }
-    d < least
+    a < least || b < least || c < least || d < least
 }
 
 // Vector k takes the place of the nearest so far where its distance d is less.
