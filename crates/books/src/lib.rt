@@ -192,7 +192,7 @@ pub fn search(hebap: u8, x: &[f32]) -> usize
     let x5 = x[5];
     let mut s = Nearest {
         best: 0,
-        least: f32::from_bits(0x7f80_0000),
+        least: f32::INFINITY,
     };
     let mut k: usize = 0;
     while k < n {

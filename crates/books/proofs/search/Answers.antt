@@ -4,8 +4,7 @@ use mathlib.Core.Path.{◌∙◌, sym, ap, refl}
 use mathlib.Core.Bool.{false}
 use native.Mathlib.Nat.{sub-zero}
 use native.Mathlib.Omega.{arith}
-use borrow.Author.Rules.{rules}
-use lib.Ieee.{inf, of_bits, nan_bits}
+use lib.Ieee.{inf, of_bits}
 use Rattle.tables.specs.Tables.{book}
 use Rattle.tables.proofs.Rules.{book_fits}
 use Rattle.books.specs.Books.{search_from}
@@ -20,10 +19,6 @@ use Rattle.books.proofs.search.Goals.{After-vectors_in-n, then-any_less, else-an
 -- the book of the hebap, as n counts it
 there : (c : After-vectors_in-n) → HasBook c.args.hebap c.vectors_in-n.result
 there c = book_of c.args.hebap c.vectors_in-n.result c.requires.le_hebap.0 c.requires.le_hebap.1 c.vectors_in-n.ensures
-
-pub float_from_bits-s : goal.float_from_bits-s
-unfolding nan_bits
-float_from_bits-s c = search rules
 
 pub loop-k-init : goal.loop-k-init
 unfolding of_bits
