@@ -10,7 +10,7 @@ ghost use Rattle.levels.specs.Component.{too_large, some_too_large};
 ghost use Rattle.levels.specs.Codes.{signed, small_bits, large_bits, code_bits, Accepted};
 ghost use Rattle.levels.specs.Exact.{slope, offset_by_sign, exact_of};
 ghost use Rattle.levels.specs.Value.{q15, power, gaq_remap, level_of, divided, value_in, value_of};
-ghost use Rattle.levels.specs.Work.{remap_of, remap_by, scale_of, IsScale, row_of, AreScales};
+ghost use Rattle.levels.specs.Work.{remap_of, remap_by, IsScale, row_of, AreScales};
 
 mod consts;
 
@@ -223,6 +223,8 @@ pub struct CodeScale {
     pub large_unit: i32,
     pub up: i32,
     pub below: i32,
+    pub ghost known: { (8 ≤ hebap) × (hebap ≤ 19) },
+    pub ghost is: { IsScale hebap gk remap small large small_part large_part small_unit large_unit up below },
 }
 
 // The scales of all hebaps and gains, a row each: computing a scale takes longer than reading a bin.
@@ -274,7 +276,7 @@ fn row_of(hebap: u8, gk: u8) -> usize
 // The scale of a hebap and a gain, out of the table.
 pub fn scale_at(hebap: u8, gk: u8) -> CodeScale
     requires { (8 ≤ hebap) × (hebap ≤ 19) }
-    ensures { result ≡ scale_of hebap gk }
+    ensures { (result.hebap ≡ hebap) × (result.gk ≡ gk) }
 {
     let t = scales();
     let i = row_of(hebap, gk);
@@ -299,7 +301,6 @@ pub fn scale_at(hebap: u8, gk: u8) -> CodeScale
 
 // The kind and the f32 value of a code.
 pub fn level_of(s: CodeScale, code: Code) -> Level
-    requires scale { IsScale s }
     requires accepted { Accepted s.hebap s.gk code }
     ensures { result ≡ level_of s.hebap s.gk code }
 {
@@ -313,7 +314,6 @@ pub fn level_of(s: CodeScale, code: Code) -> Level
 
 // The exact value of a code.
 pub fn exact_value(s: CodeScale, code: Code) -> i32
-    requires scale { IsScale s }
     requires accepted { Accepted s.hebap s.gk code }
     ensures { result ≡ exact_of s.hebap s.gk code }
 {
@@ -330,7 +330,6 @@ pub fn exact_value(s: CodeScale, code: Code) -> i32
 // ---- codes of Gk 1: all are large and b is 0, so no branch goes by their sign
 
 pub fn fixed_value(s: CodeScale, u: u32) -> f32
-    requires scale { IsScale s }
     requires gk_value { s.gk ≡ 1 }
     requires accepted { Accepted s.hebap s.gk (Code.Large u) }
     ensures { result ≡ value_of s.hebap s.gk (Code.Large u) }
@@ -340,7 +339,6 @@ pub fn fixed_value(s: CodeScale, u: u32) -> f32
 }
 
 pub fn fixed_exact(s: CodeScale, u: u32) -> i32
-    requires scale { IsScale s }
     requires gk_value { s.gk ≡ 1 }
     requires accepted { Accepted s.hebap s.gk (Code.Large u) }
     ensures { result ≡ exact_of s.hebap s.gk (Code.Large u) }

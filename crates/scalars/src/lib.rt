@@ -8,7 +8,6 @@ ghost use Rattle.tables.specs.Tables.{mant_bits};
 ghost use Rattle.levels.specs.Codes.{tagged, coded, six, Accepted};
 ghost use Rattle.levels.specs.Exact.{exact_of};
 ghost use Rattle.levels.specs.Value.{f0, value_of};
-ghost use Rattle.levels.specs.Work.{IsScale};
 ghost use Rattle.bits.specs.declared.BitMove.{BitMove};
 ghost use Rattle.bits.specs.Format.{move_answer};
 ghost use Rattle.scalars.specs.Scalars.{code_in, gain_of, values_read, bin_read, scalars_read, scalars_after};
@@ -79,7 +78,6 @@ pub fn read_code(src: &[u8], pos: BitPos, hebap: u8, gk: u8) -> CodeResult
 
 // The f32 and the exact value of a code go to the place `at`.
 fn put_values(s: CodeScale, code: Code, at: usize, values: &mut [f32], exact: &mut [i32])
-    requires scale { IsScale s }
     requires accepted { Accepted s.hebap s.gk code }
     requires at_in_bounds { (at < length values.old) × (at < length exact.old) }
     ensures values_after { values.new ≡ set values.old at (value_of s.hebap s.gk code) }
@@ -98,7 +96,6 @@ fn read_fixed(
     values: &mut [f32],
     exact: &mut [i32],
 ) -> BitPos
-    requires scale { IsScale s }
     requires gk_value { s.gk ≡ 1 }
     requires bit_bound { (pos.bit < 8) × (pos.byte + 28 ≤ length src.now) }
     requires at_in_bounds { (at + 6 ≤ length values.old) × (at + 6 ≤ length exact.old) }
@@ -121,7 +118,6 @@ fn read_fixed(
 
 // The code of another gain that stands at pos, bounds-checked by the caller.
 fn code_ahead(s: CodeScale, src: &[u8], pos: BitPos) -> CodeAhead
-    requires scale { IsScale s }
     requires fact { s.gk ≡ 1 → ⊥ }
     requires bit_bound { (pos.bit < 8) × (pos.byte + 8 ≤ length src.now) }
     ensures src_value { (coded (mant_bits s.hebap) s.gk).dec (drop (bit_at pos) (bits_of src.now)) ≡ got result.code (drop (bit_at pos + result.bits) (bits_of src.now)) }
@@ -151,7 +147,6 @@ fn read_small_or_large(
     values: &mut [f32],
     exact: &mut [i32],
 ) -> BitPos
-    requires scale { IsScale s }
     requires fact { s.gk ≡ 1 → ⊥ }
     requires bit_bound { (pos.bit < 8) × (pos.byte + 28 ≤ length src.now) }
     requires at_in_bounds { (at + 6 ≤ length values.old) × (at + 6 ≤ length exact.old) }
@@ -181,7 +176,6 @@ fn read_each(
     values: &mut [f32],
     exact: &mut [i32],
 ) -> BitMove
-    requires scale { IsScale s }
     requires inside { Inside (8 * length src.now) pos }
     requires at_in_bounds { (at + 6 ≤ length values.old) × (at + 6 ≤ length exact.old) }
     ensures value { result ≡ move_answer (8 * length src.now) ((six (mant_bits s.hebap) s.gk).dec (drop (bit_at pos) (bits_of src.now))) }
@@ -216,7 +210,6 @@ pub fn read_six(
     values: &mut [f32],
     exact: &mut [i32],
 ) -> BitMove
-    requires scale { IsScale s }
     requires inside { Inside (8 * length src.now) pos }
     requires at_in_bounds { (at + 6 ≤ length values.old) × (at + 6 ≤ length exact.old) }
     ensures value { result ≡ move_answer (8 * length src.now) ((six (mant_bits s.hebap) s.gk).dec (drop (bit_at pos) (bits_of src.now))) }

@@ -57,8 +57,8 @@ below_is c = back w32 c.whole-4.result c.whole-4.type_inv c.whole-4.ensures
 pub overflow_sub-result : goal.overflow_sub-result
 overflow_sub-result c = rw (below_is c) (neg_fits _ (whole-requires-4 (goal.at.overflow_sub-result c).After-whole-3).k_bound_2)
 
-pub returns : goal.returns
-returns c = row_is_scale c.scales-t.result.now c.scales-t.ensures c.args.hebap c.args.gk c.requires.0 c.requires.1 c.row_of-i.result c.row_of-i.ensures _ _ _ _ _ _ _ _ _ _ _
+pub invariant_of-result-clause-is : goal.invariant_of-result-clause-is
+invariant_of-result-clause-is c = row_is_scale c.scales-t.result.now c.scales-t.ensures c.args.hebap c.args.gk c.requires.0 c.requires.1 c.row_of-i.result c.row_of-i.ensures _ _ _ _ _ _ _ _ _ _ _
     c.fraction.ensures c.fraction-2.ensures c.fraction-3.ensures c.entry.ensures c.entry-2.ensures c.fraction-4.ensures c.fraction-5.ensures
     (back w32 c.whole.result c.whole.type_inv c.whole.ensures) (back w32 c.whole-2.result c.whole-2.type_inv c.whole-2.ensures) (back w32 c.whole-3.result c.whole-3.type_inv c.whole-3.ensures)
     (to_z-of_z w32 _ (overflow_sub-result c) ∙ rw (below_is c) (neg_is (get_or c.scales-t.result.now (c.row_of-i.result + 10) 0)))

@@ -34,7 +34,7 @@ pub overflow_add-at : goal.overflow_add-at
 overflow_add-at c = search rules
 
 pub put_values-requires : goal.put_values-requires
-put_values-requires c = record { scale = c.requires.scale; accepted = code_accepted c.args.s.hebap c.args.s.gk _ _ _ (code_is (goal.at.put_values-requires c).In-Read); at_in_bounds = (omega (arith, c.loop-j.invariant.1, c.requires.at_in_bounds), omega (arith, c.loop-j.invariant.2, c.requires.at_in_bounds)) }
+put_values-requires c = record { accepted = code_accepted c.args.s.hebap c.args.s.gk _ _ _ (code_is (goal.at.put_values-requires c).In-Read); at_in_bounds = (omega (arith, c.loop-j.invariant.1, c.requires.at_in_bounds), omega (arith, c.loop-j.invariant.2, c.requires.at_in_bounds)) }
 
 pub loop-j-preserved : goal.loop-j-preserved
 loop-j-preserved c = let a = c.args in
