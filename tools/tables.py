@@ -1,7 +1,7 @@
 #!/usr/bin/env python3
 """The tables of crates/tables, books and levels, made from the Rust's text, or compared with it.
 
-  tables.py FOLDER            writes the Rattle constants and the definitions' lists, as rt fmt lays them out
+  tables.py FOLDER            writes the Rattle statics and the definitions' lists, as rt fmt lays them out
   tables.py FOLDER --check    compares them number by number, and then the files with what would be written; exit status
                               1 where one differs
 
@@ -57,8 +57,8 @@ SECTION.update({'VQ_HEBAP%d' % h: 'Table E4.%d, six numbers a vector' % h for h 
 
 
 def constant(name, kind, words):
-    """The lines of a constant array in rt fmt's layout: on one line where that is short, else lines as full as 99 places allow."""
-    head = 'pub const %s: [%s; %d] = [' % (name, kind, len(words))
+    """The lines of a static array in rt fmt's layout: on one line where that is short, else lines as full as 99 places allow."""
+    head = 'pub static %s: [%s; %d] = [' % (name, kind, len(words))
     if len(', '.join(words)) <= 60:
         return [head + ', '.join(words) + '];']
     body = textwrap.wrap(', '.join(words) + ',', 99, initial_indent='    ', subsequent_indent='    ', break_on_hyphens=False)
@@ -134,9 +134,9 @@ def ours():
     code = open(CODE, encoding='utf-8').read()
     spec = open(SPEC, encoding='utf-8').read()
     from_code = {n: (k, [int(x) for x in re.findall(r'-?\d+', body)])
-                 for n, k, body in re.findall(r'pub const (\w+): \[(\w+); \d+\] = \[(.*?)\];', code, re.S)}
+                 for n, k, body in re.findall(r'pub static (\w+): \[(\w+); \d+\] = \[(.*?)\];', code, re.S)}
     by_component = {n: [int(x, 16) for x in re.findall(r'0x(\w{8})', body)]
-                    for n, body in re.findall(r'pub const (\w+): \[u32; \d+\] = \[(.*?)\];', open(FRACTIONS, encoding='utf-8').read(), re.S)}
+                    for n, body in re.findall(r'pub static (\w+): \[u32; \d+\] = \[(.*?)\];', open(FRACTIONS, encoding='utf-8').read(), re.S)}
     from_spec = {}
     for n, body in re.findall(r'unfoldable pub (\w+) : List .\n\1 =\n(.*?)\[\]', spec, re.S):
         from_spec[n] = [int(x.split()[-1]) * (-1 if x.startswith('neg') else 1) for x in re.findall(r'pos \d+|neg \d+|\d+', body)]
@@ -145,7 +145,7 @@ def ours():
 
 def scales_read():
     """The numbers of SCALES in the repository."""
-    body = re.search(r'pub const SCALES: \[u32; \d+\] = \[(.*?)\];', open(SCALES, encoding='utf-8').read(), re.S).group(1)
+    body = re.search(r'pub static SCALES: \[u32; \d+\] = \[(.*?)\];', open(SCALES, encoding='utf-8').read(), re.S).group(1)
     return [int(x, 0) for x in re.findall(r'0x\w+|\d+', body)]
 
 

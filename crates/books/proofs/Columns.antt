@@ -1,12 +1,12 @@
 -- A book in component order: where its numbers are; its search is the search through the book. Assumes nothing.
-use Prim.Native.Nat.{ℕ, zero, suc, ◌+◌, ◌-◌, ◌*◌, ◌/◌, ◌%◌, ◌^◌, ◌<◌, ◌≤◌}
+use Prim.Native.Nat.{ℕ, zero, suc, ◌+◌, ◌*◌, ◌/◌, ◌%◌, ◌^◌, ◌<◌, ◌≤◌}
 use mathlib.Core.Path.{◌≡◌, refl, ap, sym, ◌∙◌}
 use mathlib.Core.Bool.{false, true≢false}
 use mathlib.Core.List.{List, [], ◌∷◌, ◌++◌}
 use native.Mathlib.Nat.{zero-mul, suc-mul, mul_comm, mod-lt, mod-add-div, div-lt_iff_lt-mul}
 use native.Mathlib.Omega.{arith}
 use lib.IntN.{ℤ, pos}
-use lib.ListN.{length, length-append, length-map, get_or, take, drop, get_or-append}
+use lib.ListN.{length, length-append, length-map, get_or, drop, get_or-append}
 use lib.Signed.{mag}
 use lib.Ieee.Bits.{nan_bits_is}
 use lib.Seq.{get_or-append-add, get_or-drop}
@@ -16,7 +16,7 @@ use Rattle.levels.specs.Component.{beyond}
 use Rattle.levels.specs.Value.{f0, q15}
 use Rattle.books.specs.Fractions.{column, by_component, floats, FractionsOf}
 use Rattle.books.specs.Books.{term_of, sum_to, distance_of, search_from, nearest_in, vectors_of, search_of}
-use Rattle.books.specs.Work.{distance_by, distance_in, NoNans, place_of, FractionsLoaded}
+use Rattle.books.specs.Work.{distance_by, distance_in, NoNans}
 use Rattle.books.proofs.First.{entry_most}
 use Rattle.books.proofs.Laws.{HasBook}
 
@@ -132,10 +132,6 @@ columns_length n b =
 pub book_length : (h : ℕ) (t : List ℕ) → FractionsOf h t → length t ≡ 6 * vectors_of h
 unfolding floats
 book_length h t e = sym (length-map t (of_bits binary32)) ∙ ap length e ∙ columns_length (vectors_of h) (book h)
-
--- that part of the seven books, as the code names it
-pub book_part : (h n a : ℕ) (l : List ℕ) → 1 ≤ h → h ≤ 7 → n ≡ vectors_of h → a ≡ place_of h → FractionsLoaded l → FractionsOf h (take (a + 6 * n - a) (drop a l))
-book_part h n a l p q en ea f = let m : a + 6 * n - a ≡ 6 * n = omega arith in rw (m, en, ea) (f.each h p (omega arith))
 
 -- what the search through it answers
 pub searched : (h n : ℕ) (t : List ℕ) (x : List Float) (r : ℕ) → n ≡ vectors_of h → HasBook h n → FractionsOf h t

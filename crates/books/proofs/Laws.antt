@@ -1,9 +1,7 @@
 -- Which hebaps have a book, and how large it is. Assumes nothing.
-use Prim.Native.Nat.{ℕ, zero, suc, ◌*◌, ◌%◌, ◌^◌, ◌≤◌, ◌<◌}
+use Prim.Native.Nat.{ℕ, ◌*◌, ◌%◌, ◌^◌, ◌≤◌, ◌<◌}
 use mathlib.Core.Path.{◌≡◌, refl, sym, ◌∙◌}
 use mathlib.Core.Bool.{Bool, true, false, cond, ◌&&◌}
-use mathlib.Core.Logic.{◌⊎◌, inl, inr}
-use native.Mathlib.Nat.{zero-lt-suc, le_of_suc-le-suc}
 use native.Mathlib.Omega.{arith}
 use lib.Dec.{leb, eqb, eqb→eq}
 use lib.Pow.{pow_pos, pow_mono}
@@ -12,28 +10,15 @@ use borrow.Author.Tests.{le-leb, lt-leb, leb-true}
 use Rattle.tables.specs.Numbers.{vq_bits_table}
 use Rattle.tables.specs.Tables.{book, vq_bits}
 use Rattle.tables.proofs.Rules.{book_size, vq_most}
-use Rattle.tables.proofs.Tests.{lt_or_le, every_at}
+use Rattle.tables.proofs.Tests.{every_at}
 use Rattle.books.specs.Books.{has_book, vectors_of}
 
--- what a match leaves
-pub last_one : (h : ℕ) → 1 ≤ h → h ≤ 7 → (h ≡ 1 → ⊥) → (h ≡ 2 → ⊥) → (h ≡ 3 → ⊥) → (h ≡ 4 → ⊥) → (h ≡ 5 → ⊥) → (h ≡ 6 → ⊥) → h ≡ 7
-last_one h l u a b c d e f = omega arith
-
-pub outside : (h : ℕ) → (h ≡ 1 → ⊥) → (h ≡ 2 → ⊥) → (h ≡ 3 → ⊥) → (h ≡ 4 → ⊥) → (h ≡ 5 → ⊥) → (h ≡ 6 → ⊥) → (h ≡ 7 → ⊥) → (h ≡ 0) ⊎ (8 ≤ h)
-outside zero a b c d e f g = inl refl
-outside (suc h) a b c d e f g =
-    elim (lt_or_le (suc h) 8) [
-      | inl u ↦ absurd (g (last_one (suc h) (zero-lt-suc h) (le_of_suc-le-suc u) a b c d e f))
-      | inr u ↦ inr u
-    ]
-
-pub without_book : (h : ℕ) → (h ≡ 0) ⊎ (8 ≤ h) → has_book h ≡ false
-without_book h (inl e) = rw e
-without_book h (inr k) = rw (lt-leb h 7 k) (go (leb 1 h))
+pub without_book : (h : ℕ) → (1 ≤ h → 8 ≤ h) → has_book h ≡ false
+without_book h k = go (leb 1 h) refl
   where
-    go : (t : Bool) → (t && false) ≡ false
-    go true = refl
-    go false = refl
+    go : (t : Bool) → leb 1 h ≡ t → (t && leb h 7) ≡ false
+    go true e = lt-leb h 7 (k (leb-true 1 h e))
+    go false e = refl
 
 pub no_book : (h n : ℕ) → n ≡ vectors_of h → n ≡ 0 → has_book h ≡ false
 no_book h n e z = go (has_book h) (sym e ∙ z)

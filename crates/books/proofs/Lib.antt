@@ -4,6 +4,5 @@ pub mod Steps
 pub mod Columns
 pub mod Laws
 pub mod First
-pub mod Loading
 pub mod Vectors
 pub mod Wider

@@ -1,21 +1,18 @@
--- A vector of a book: copied a number at a time, and found where the seven books are loaded. Assumes nothing.
+-- A vector of a book: where it stands, and copied a number at a time. Assumes nothing.
 use Prim.Native.Nat.{ℕ, suc, ◌+◌, ◌*◌, ◌%◌, ◌^◌, ◌≤◌, ◌<◌}
 use mathlib.Core.Path.{◌≡◌, refl, sym, ap, ◌∙◌}
-use mathlib.Core.List.{List, [], ◌∷◌, ◌++◌, map}
+use mathlib.Core.List.{List, [], ◌∷◌, map}
 use native.Mathlib.Nat.{mod-lt, mod-eq_of_lt}
 use native.Mathlib.Omega.{arith}
 use lib.IntN.{ℤ, pos}
 use lib.Ieee.{Float}
-use lib.ListN.{length, length-drop, take, drop, get_or, set, take-append-drop}
-use lib.Seq.{take-suc, drop-cons, get_or-drop, length-take-le, drop-drop}
+use lib.ListN.{length, length-drop, take, drop, get_or, set}
+use lib.Seq.{take-suc, drop-cons, get_or-drop, length-take-le}
 use Rattle.bits.specs.Bits.{splice}
 use Rattle.bits.proofs.Copying.{put_more}
 use Rattle.tables.specs.Tables.{book, vq_bits}
-use Rattle.levels.specs.Value.{q15}
-use Rattle.books.specs.Books.{vectors_of, six_by, six_at, vq_lookup, exact_entry, exacts_at, vq_exact}
-use Rattle.books.specs.Work.{place_of, VectorsLoaded}
+use Rattle.books.specs.Books.{vectors_of, six_by, six_at, vq_lookup, exacts_at, vq_exact}
 use Rattle.books.proofs.Laws.{HasBook, book_of}
-use Rattle.books.proofs.Loading.{part_front, place_later, place_end}
 
 module _ (b : List ℤ) (a : ℕ) (h : a + 6 ≤ length b) where
   next : (n k : ℕ) → k < 6 → take (suc n) (drop (a + k) b) ≡ get_or b (a + k) (pos 0) ∷ take n (drop (a + suc k) b)
@@ -50,49 +47,34 @@ module _ (b : List ℤ) (a : ℕ) (h : a + 6 ≤ length b) where
       rw (s, o, d) (rw k at p)
 
 -- where a vector starts
-pub inside : (h n i : ℕ) (b : List ℤ) → HasBook h n → b ≡ book h → (i % n * 6 + 6 ≤ length b) × (i % n * 6 < 65536)
-inside h n i b k e =
+pub inside : (h n i : ℕ) → HasBook h n → (i % n * 6 + 6 ≤ length (book h)) × (i % n * 6 < 65536)
+inside h n i k =
     let m = mod-lt i k.some in
     let few = k.few in
-    let w : length b ≡ 6 * n = rw e k.whole in
+    let w = k.whole in
     (omega arith, omega arith)
 
 -- the vector at an index of a book, modulo its number of vectors
-pub looked_up : (h n i : ℕ) (b : List ℤ) (r : List Float) → HasBook h n → b ≡ book h → r ≡ six_at b (i % n * 6) → r ≡ vq_lookup h i
+pub looked_up : (h n i : ℕ) (r : List Float) → HasBook h n → r ≡ six_at (book h) (i % n * 6) → r ≡ vq_lookup h i
 unfolding vq_lookup
-looked_up h n i b r k f g = rw (k.it_has, ← k.size, ← f) g
+looked_up h n i r k e = rw (k.it_has, ← k.size) e
 
--- ---- a vector of a book that stands in a list
-module _ (l b : List ℤ) (p n a : ℕ) (e : take n (drop p l) ≡ b) (m : length b ≡ n) (h : a + 6 ≤ n) (u : p + n ≤ length l) where
-  same_entries : take 6 (drop (p + a) l) ≡ take 6 (drop a b)
-  same_entries =
-      let s : b ++ drop n (drop p l) ≡ drop p l = rw (← e) (take-append-drop n (drop p l)) in
-      rw (← drop-drop a p l, ← s) (part_front b (drop n (drop p l)) a 6 (omega arith))
+-- an index below that number stands for itself
+pub record Stands (h i : ℕ) : Type 0 where
+  pub inside : (i * 6 + 6 ≤ length (book h)) × (i * 6 < 65536)
+  pub fractions : six_at (book h) (i * 6) ≡ vq_lookup h i
+  pub exacts : exacts_at (book h) (i * 6) ≡ vq_exact h i
 
-  same_six : {A : Type 0} (f : ℤ → A) → six_by f l (p + a) ≡ six_by f b a
-  same_six f = six_is l (p + a) (omega arith) f ∙ ap (map f) same_entries ∙ sym (six_is b a (omega arith) f)
-
--- the vector at an index of a book, where the seven books are loaded
-pub record Stands (l : List ℤ) (h i : ℕ) : Type 0 where
-  pub inside : place_of h + i * 6 + 6 ≤ 5736
-  pub whole : length l ≡ 5736
-  pub fractions : six_at l (place_of h + i * 6) ≡ vq_lookup h i
-  pub exacts : exacts_at l (place_of h + i * 6) ≡ vq_exact h i
-
-pub stands : (l : List ℤ) (h i : ℕ) → 1 ≤ h → h ≤ 7 → i < 2 ^ vq_bits h → VectorsLoaded l → Stands l h i
-unfolding vq_lookup vq_exact six_at exacts_at
-stands l h i a b u v =
+pub stands : (h i : ℕ) → 1 ≤ h → h ≤ 7 → i < 2 ^ vq_bits h → Stands h i
+unfolding vq_lookup vq_exact
+stands h i a b u =
     let k = book_of h (vectors_of h) a b refl in
-    let t = k.it_has in
     let n = k.size in
-    let w = v.whole in
-    let q = place_later 8 h (omega arith) in
-    let z = place_end in
-    let s = k.whole in
+    let few = k.few in
+    let w = k.whole in
     let m : i % 2 ^ vq_bits h ≡ i = mod-eq_of_lt u in
     record {
-      inside = omega arith;
-      whole = w;
-      fractions = rw (t, m) (same_six l (book h) (place_of h) (6 * vectors_of h) (i * 6) (v.each h a (omega arith)) s (omega arith) (omega arith) q15);
-      exacts = rw (t, m) (same_six l (book h) (place_of h) (6 * vectors_of h) (i * 6) (v.each h a (omega arith)) s (omega arith) (omega arith) exact_entry);
+      inside = (omega arith, omega arith);
+      fractions = rw (k.it_has, m);
+      exacts = rw (k.it_has, m);
     }

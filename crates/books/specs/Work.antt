@@ -1,39 +1,11 @@
--- How the search is made fast; Books says what holds. The laws that join them: proofs/Columns.antt (`by_component_lem`:
--- this search is `nearest_in`) and proofs/Loading.antt.
-use Rattle.std.specs.Prelude.{ℕ, zero, suc, ◌+◌, ◌*◌, ◌<◌, ◌≤◌, ◌≡◌, false, cond, List, ℤ, length, take, drop, get_or, Float}
+-- How the search is made fast; Books says what holds. The law that joins them: `by_component_lem` (proofs/Columns.antt),
+-- this search is `nearest_in`.
+use Rattle.std.specs.Prelude.{ℕ, ◌+◌, ◌*◌, ◌<◌, ◌≡◌, false, cond, List, length, get_or, Float}
 use Rattle.std.specs.Float.{nan, binary32}
 use Rattle.std.specs.Float.Ieee.{nan_bits, lt}
-use Rattle.tables.specs.Tables.{book}
-use Rattle.books.specs.Fractions.{FractionsOf}
 use Rattle.levels.specs.Value.{f0}
 use Rattle.books.specs.declared.Nearest.{Nearest}
-use Rattle.books.specs.Books.{vectors_of, term_of}
-
--- ---- all seven books one behind another, loaded once for many bins
--- where the book of a hebap starts
-abbrev pub place_of : ℕ → ℕ
-place_of zero = 0
-place_of (suc h) = place_of h + 6 * vectors_of h
-
--- what stands there
-abbrev pub book_in : {A : Type 0} → ℕ → List A → List A
-book_in h l = take (6 * vectors_of h) (drop (place_of h) l)
-
--- the books before that of k are there, where P says what a book is to be
-pub record LoadedBefore {A : Type 0} (P : ℕ → List A → Type 0) (k : ℕ) (l : List A) : Type 0 where
-  pub whole : length l ≡ 5736
-  pub each : (h : ℕ) → 1 ≤ h → h < k → P h (book_in h l)
-
--- all seven vector by vector, as vq_lookup takes them
-abbrev pub VectorsOf : ℕ → List ℤ → Type 0
-VectorsOf h b = b ≡ book h
-
-abbrev pub VectorsLoaded : List ℤ → Type 0
-VectorsLoaded = LoadedBefore VectorsOf 8
-
--- all seven in component order, as the search takes them
-abbrev pub FractionsLoaded : List ℕ → Type 0
-FractionsLoaded = LoadedBefore FractionsOf 8
+use Rattle.books.specs.Books.{term_of}
 
 -- bit patterns that each show a number: `from_bits` is not defined at a NaN's
 pub record NoNans (l : List ℕ) : Type 0 where

@@ -1,14 +1,14 @@
 // The books as fractions, by their bit patterns, each in component order. Made by tools/tables.py.
 
 // Table E4.1: the first numbers of all vectors, then the second ones, and so on.
-pub const VQ_HEBAP1: [u32; 24] = [
+pub static VQ_HEBAP1: [u32; 24] = [
     0x3e5ff800, 0xbe323000, 0x3c9e4000, 0xbd378000, 0x3e141800, 0xbdc73000, 0x3e41b800, 0xbe5bb800,
     0x3d0a4000, 0xbee24c00, 0x3e5b0800, 0x3e6d4000, 0x3e056800, 0xbd2e0000, 0xbec7ac00, 0x3ea5e400,
     0x3ea2b000, 0xbd7d6000, 0xbd902000, 0xbe39d000, 0x3e16a000, 0x3cd44000, 0xbda4c000, 0xbdbf6000,
 ];
 
 // Table E4.2: the first numbers of all vectors, then the second ones, and so on.
-pub const VQ_HEBAP2: [u32; 48] = [
+pub static VQ_HEBAP2: [u32; 48] = [
     0xbebca400, 0x3e512000, 0x3d67e000, 0xbd154000, 0xbdaca000, 0x3d416000, 0x3e426800, 0x3dea9000,
     0x3c980000, 0x3ef52400, 0xbcf74000, 0xbdf3d000, 0xbdc6d000, 0x3e55b800, 0xbf0bf600, 0xbd054000,
     0xbe5b5800, 0xbe411000, 0x3f20e800, 0xbccd4000, 0xbdffe000, 0x3d778000, 0xbe2c6000, 0x3e05d800,
@@ -18,7 +18,7 @@ pub const VQ_HEBAP2: [u32; 48] = [
 ];
 
 // Table E4.3: the first numbers of all vectors, then the second ones, and so on.
-pub const VQ_HEBAP3: [u32; 96] = [
+pub static VQ_HEBAP3: [u32; 96] = [
     0xbe9cb000, 0x3eaca800, 0x3df89000, 0xbe070000, 0x3da84000, 0xbb870000, 0xbd436000, 0x3ddcf000,
     0x3ae40000, 0xbccd4000, 0xbe3cf000, 0xbe32a000, 0xbb5c0000, 0x3e4ea000, 0x3f294600, 0xbf2be600,
     0x3f225600, 0x3f201400, 0xbc878000, 0xbb400000, 0x3e370000, 0xbf36be00, 0x3dd48000, 0x3dbd6000,
@@ -34,7 +34,7 @@ pub const VQ_HEBAP3: [u32; 96] = [
 ];
 
 // Table E4.4: the first numbers of all vectors, then the second ones, and so on.
-pub const VQ_HEBAP4: [u32; 192] = [
+pub static VQ_HEBAP4: [u32; 192] = [
     0x3f320600, 0x3e4f6000, 0x3de4a000, 0x3f289800, 0xbd8b9000, 0xbd438000, 0x3e0d4000, 0x3c478000,
     0x3de28000, 0xbe034800, 0xbe227000, 0xbb8e0000, 0x3ccb8000, 0xbd4a4000, 0x3e128800, 0xbdcec000,
     0x3d632000, 0xbda1b000, 0xbdb67000, 0xbf148800, 0x3d2a6000, 0xbe864000, 0x3ca30000, 0xbe46c800,
@@ -62,7 +62,7 @@ pub const VQ_HEBAP4: [u32; 192] = [
 ];
 
 // Table E4.5: the first numbers of all vectors, then the second ones, and so on.
-pub const VQ_HEBAP5: [u32; 768] = [
+pub static VQ_HEBAP5: [u32; 768] = [
     0xbdd42000, 0xbef4c400, 0x3e0b9800, 0x3ddfc000, 0xbf069c00, 0xbe7c4800, 0x3e07b800, 0x3e466000,
     0xbdb40000, 0xbe1f3800, 0xbd98b000, 0xbf0f9600, 0xbf391e00, 0xbcbfc000, 0x3e2a7800, 0x3f068600,
     0xbd2dc000, 0xbe569000, 0xbd616000, 0xbf28d400, 0xbe2db800, 0xbc370000, 0xbd6bc000, 0xbdc59000,
@@ -162,7 +162,7 @@ pub const VQ_HEBAP5: [u32; 768] = [
 ];
 
 // Table E4.6: the first numbers of all vectors, then the second ones, and so on.
-pub const VQ_HEBAP6: [u32; 1536] = [
+pub static VQ_HEBAP6: [u32; 1536] = [
     0x3e9ea800, 0xbda3b000, 0xbe2e7800, 0x3c560000, 0x3e7f0800, 0x3d0e8000, 0xbda31000, 0xbdfc8000,
     0x3e108000, 0xbb420000, 0x3e56f000, 0x3f070000, 0x3e355000, 0x3e36d800, 0x3edc4000, 0xbe62e800,
     0xbe060000, 0x3e196800, 0x3f180c00, 0xbf575400, 0xbc050000, 0xbdb9a000, 0xbbdd0000, 0x3e965400,
@@ -358,7 +358,7 @@ pub const VQ_HEBAP6: [u32; 1536] = [
 ];
 
 // Table E4.7: the first numbers of all vectors, then the second ones, and so on.
-pub const VQ_HEBAP7: [u32; 3072] = [
+pub static VQ_HEBAP7: [u32; 3072] = [
     0xbf256a00, 0xbf2fee00, 0x3e548000, 0x3d92b000, 0xbe4ec800, 0xbf2a1000, 0xbdab9000, 0xbcff0000,
     0xbf19ec00, 0x3dfd1000, 0xbf267000, 0x3eb11000, 0xbf0b4600, 0x3d086000, 0x3f0fa800, 0x3f30ec00,
     0x3d398000, 0xbda2b000, 0xbdaed000, 0xbf14a600, 0xbd88d000, 0xbf2e6a00, 0x3f2ca800, 0x3f22ee00,

@@ -10,11 +10,9 @@ ghost use Rattle.tables.specs.Tables.{vq_bits};
 ghost use Rattle.books.specs.Books.{vectors_of, six_at, vq_lookup, exact_entry, exacts_at, vq_exact};
 ghost use Rattle.books.specs.Books.{term_of, search_of, vq_search};
 ghost use Rattle.books.specs.Fractions.{floats, FractionsOf};
-ghost use Rattle.books.specs.Work.{place_of, VectorsOf, LoadedBefore, VectorsLoaded, FractionsLoaded};
 ghost use Rattle.books.specs.Work.{NoNans, nearer_of, distance_by};
 
 mod consts;
-mod fractions;
 
 use answers::Refusal;
 
@@ -23,75 +21,6 @@ use answers::Refusal;
 pub struct Nearest {
     pub best: usize,
     pub least: f32,
-}
-
-// ---- loading: a book is built anew each time it is named, so a caller with many bins loads all of them once
-
-// Copies the book of the hebap to its place. Two functions, as there are no generics; the laws are proofs/Loading.
-fn put_vectors(from: &[i16], hebap: u8, room: &mut [i16])
-    requires { (1 ≤ hebap) × (hebap ≤ 7) × VectorsOf hebap from.now × LoadedBefore VectorsOf hebap room.old }
-    ensures { LoadedBefore VectorsOf (hebap + 1) room.new }
-{
-    let at = place(hebap);
-    let mut i: usize = 0;
-    while i < from.len() {
-        room[at + i] = from[i];
-        i += 1;
-    }
-}
-
-fn put_fractions(from: &[u32], hebap: u8, room: &mut [u32])
-    requires { (1 ≤ hebap) × (hebap ≤ 7) × FractionsOf hebap from.now × LoadedBefore FractionsOf hebap room.old }
-    ensures { LoadedBefore FractionsOf (hebap + 1) room.new }
-{
-    let at = place(hebap);
-    let mut i: usize = 0;
-    while i < from.len() {
-        room[at + i] = from[i];
-        i += 1;
-    }
-}
-
-// The seven books one behind another, vector by vector. A call a book, since each is an array type of its own.
-pub fn load_vectors(room: &mut [i16])
-    requires { length room.old ≡ 5736 }
-    ensures { VectorsLoaded room.new }
-{
-    let b1 = tables::vq_hebap1();
-    put_vectors(&b1, 1, &mut *room);
-    let b2 = tables::vq_hebap2();
-    put_vectors(&b2, 2, &mut *room);
-    let b3 = tables::vq_hebap3();
-    put_vectors(&b3, 3, &mut *room);
-    let b4 = tables::vq_hebap4();
-    put_vectors(&b4, 4, &mut *room);
-    let b5 = tables::vq_hebap5();
-    put_vectors(&b5, 5, &mut *room);
-    let b6 = tables::vq_hebap6();
-    put_vectors(&b6, 6, &mut *room);
-    let b7 = tables::vq_hebap7();
-    put_vectors(&b7, 7, &mut *room);
-}
-
-// The seven books one behind another, in component order.
-pub fn load_fractions(room: &mut [u32])
-    requires { length room.old ≡ 5736 }
-    ensures { FractionsLoaded room.new }
-{
-    let b1 = fractions::vq_hebap1();
-    put_fractions(&b1, 1, &mut *room);
-    let b2 = fractions::vq_hebap2();
-    put_fractions(&b2, 2, &mut *room);
-    let b3 = fractions::vq_hebap3();
-    put_fractions(&b3, 3, &mut *room);
-    let b4 = fractions::vq_hebap4();
-    put_fractions(&b4, 4, &mut *room);
-    let b5 = fractions::vq_hebap5();
-    put_fractions(&b5, 5, &mut *room);
-    let b6 = fractions::vq_hebap6();
-    put_fractions(&b6, 6, &mut *room);
-    let b7 = fractions::vq_hebap7();
-    put_fractions(&b7, 7, &mut *room);
 }
 
 // How many vectors the book of the hebap has, 0 where there is none.
@@ -107,23 +36,6 @@ fn vectors_in(hebap: u8) -> usize
         6 => 256,
         7 => 512,
         _ => 0,
-    }
-}
-
-// Where the book of the hebap starts among the seven: six numbers for each vector before it, which `place_of` sums up.
-// The sums are written out since each bin asks for one; 5736 is that of all seven.
-fn place(hebap: u8) -> usize
-    requires { (1 ≤ hebap) × (hebap ≤ 7) }
-    ensures { result ≡ place_of hebap }
-{
-    match hebap {
-        1 => 0,
-        2 => 24,
-        3 => 72,
-        4 => 168,
-        5 => 360,
-        6 => 1128,
-        _ => 2664,
     }
 }
 
@@ -152,49 +64,15 @@ fn six(b: &[i16], a: usize) -> [f32; 6]
     ]
 }
 
-// The vector at an index of the book of the hebap, modulo its number of vectors.
-fn vector(b: &[i16], hebap: u8, index: usize) -> [f32; 6]
-    requires { (1 ≤ hebap) × (hebap ≤ 7) × VectorsOf hebap b.now }
-    ensures { result ≡ vq_lookup hebap index }
-{
-    six(b, index % vectors_in(hebap) * 6)
-}
-
-// The same; zeros where the hebap has no book. An arm a book, since each is an array type of its own.
+// The vector at an index of the book of the hebap, modulo its number of vectors; zeros where there is no book.
 pub fn vq_lookup(hebap: u8, index: usize) -> [f32; 6]
     ensures { result ≡ vq_lookup hebap index }
 {
-    match hebap {
-        1 => {
-            let b = tables::vq_hebap1();
-            vector(&b, hebap, index)
-        }
-        2 => {
-            let b = tables::vq_hebap2();
-            vector(&b, hebap, index)
-        }
-        3 => {
-            let b = tables::vq_hebap3();
-            vector(&b, hebap, index)
-        }
-        4 => {
-            let b = tables::vq_hebap4();
-            vector(&b, hebap, index)
-        }
-        5 => {
-            let b = tables::vq_hebap5();
-            vector(&b, hebap, index)
-        }
-        6 => {
-            let b = tables::vq_hebap6();
-            vector(&b, hebap, index)
-        }
-        7 => {
-            let b = tables::vq_hebap7();
-            vector(&b, hebap, index)
-        }
-        _ => [0.0f32; 6],
+    let n = vectors_in(hebap);
+    if n == 0 {
+        return [0.0f32; 6];
     }
+    six(tables::vq_book(hebap), index % n * 6)
 }
 
 fn exact_entry(e: i16) -> i32
@@ -210,34 +88,41 @@ fn put_six(book: &[i16], a: usize, at: usize, values: &mut [f32], exact: &mut [i
     ensures values_after { values.new ≡ splice values.old at (six_at book.now a) }
     ensures exact_after { exact.new ≡ splice exact.old at (exacts_at book.now a) }
 {
-    let mut j: usize = 0;
-    while j < 6 {
+    for j in 0..6 {
         let e = book[a + j];
         values[at + j] = levels::q15(e);
         exact[at + j] = exact_entry(e);
-        j += 1;
     }
 }
 
 // The vector at an index of the book of the hebap goes to the places from `at` on, as f32 and as exact values.
-pub fn put_vector(
-    books: &[i16],
-    hebap: u8,
-    index: usize,
-    at: usize,
-    values: &mut [f32],
-    exact: &mut [i32],
-)
+pub fn put_vector(hebap: u8, index: usize, at: usize, values: &mut [f32], exact: &mut [i32])
     requires le_hebap { (1 ≤ hebap) × (hebap ≤ 7) × (index < 2 ^ vq_bits hebap) }
-    requires vectors_loaded { VectorsLoaded books.now }
     requires at_in_bounds { (at + 6 ≤ length values.old) × (at + 6 ≤ length exact.old) }
     ensures values_after { values.new ≡ splice values.old at (vq_lookup hebap index) }
     ensures exact_after { exact.new ≡ splice exact.old at (vq_exact hebap index) }
 {
-    put_six(books, place(hebap) + index * 6, at, values, exact);
+    put_six(tables::vq_book(hebap), index * 6, at, values, exact);
 }
 
 // ---- searching
+
+// The book of the hebap in component order, each number as the bit pattern of its fraction: so several vectors are
+// taken at a time.
+fn fractions(hebap: u8) -> &'static [u32]
+    ensures { FractionsOf hebap result.now }
+{
+    match hebap {
+        1 => &consts::VQ_HEBAP1,
+        2 => &consts::VQ_HEBAP2,
+        3 => &consts::VQ_HEBAP3,
+        4 => &consts::VQ_HEBAP4,
+        5 => &consts::VQ_HEBAP5,
+        6 => &consts::VQ_HEBAP6,
+        7 => &consts::VQ_HEBAP7,
+        _ => &[],
+    }
+}
 
 // d and the square of what x and the fraction at a place differ by.
 fn term(d: f32, x: f32, t: &[u32], i: usize) -> f32
@@ -276,16 +161,7 @@ fn distance(
 fn any_less(a: f32, b: f32, c: f32, d: f32, least: f32) -> bool
     ensures { result ≡ (lt a least || (lt b least || (lt c least || lt d least))) }
 {
-    if a < least {
-        return true;
-    }
-    if b < least {
-        return true;
-    }
-    if c < least {
-        return true;
-    }
-    d < least
+    a < least || b < least || c < least || d < least
 }
 
 // Vector k takes the place of the nearest so far where its distance d is less.
@@ -301,10 +177,12 @@ fn nearer(s: Nearest, d: f32, k: usize) -> Nearest
 
 // The first of the vectors nearest to x in the book of the hebap. Four at a time, which the machine does together; only
 // where one of them is nearer than all before are they compared one by one.
-fn search_book(t: &[u32], hebap: u8, x: &[f32]) -> usize
-    requires { (1 ≤ hebap) × (hebap ≤ 7) × FractionsOf hebap t.now × (length x.now ≡ 6) }
+pub fn search(hebap: u8, x: &[f32]) -> usize
+    requires le_hebap { (1 ≤ hebap) × (hebap ≤ 7) }
+    requires x_len { length x.now ≡ 6 }
     ensures { result ≡ search_of hebap x.now }
 {
+    let t = fractions(hebap);
     let n = vectors_in(hebap);
     let x0 = x[0];
     let x1 = x[1];
@@ -314,7 +192,7 @@ fn search_book(t: &[u32], hebap: u8, x: &[f32]) -> usize
     let x5 = x[5];
     let mut s = Nearest {
         best: 0,
-        least: f32::from_bits(0x7f80_0000),
+        least: f32::INFINITY,
     };
     let mut k: usize = 0;
     while k < n {
@@ -332,56 +210,6 @@ fn search_book(t: &[u32], hebap: u8, x: &[f32]) -> usize
         k += 4;
     }
     s.best
-}
-
-// The same in books that are loaded.
-pub fn search_in(books: &[u32], hebap: u8, x: &[f32]) -> usize
-    requires le_hebap { (1 ≤ hebap) × (hebap ≤ 7) }
-    requires fractions_loaded { FractionsLoaded books.now }
-    requires x_len { length x.now ≡ 6 }
-    ensures { result ≡ search_of hebap x.now }
-{
-    let a = place(hebap);
-    let b = a + 6 * vectors_in(hebap);
-    search_book(&books[a..b], hebap, x)
-}
-
-// The same, building the one book that is needed. An arm a book, since each is an array type of its own.
-fn search(hebap: u8, x: &[f32]) -> usize
-    requires le_hebap { (1 ≤ hebap) × (hebap ≤ 7) }
-    requires x_len { length x.now ≡ 6 }
-    ensures { result ≡ search_of hebap x.now }
-{
-    match hebap {
-        1 => {
-            let t = fractions::vq_hebap1();
-            search_book(&t, hebap, x)
-        }
-        2 => {
-            let t = fractions::vq_hebap2();
-            search_book(&t, hebap, x)
-        }
-        3 => {
-            let t = fractions::vq_hebap3();
-            search_book(&t, hebap, x)
-        }
-        4 => {
-            let t = fractions::vq_hebap4();
-            search_book(&t, hebap, x)
-        }
-        5 => {
-            let t = fractions::vq_hebap5();
-            search_book(&t, hebap, x)
-        }
-        6 => {
-            let t = fractions::vq_hebap6();
-            search_book(&t, hebap, x)
-        }
-        _ => {
-            let t = fractions::vq_hebap7();
-            search_book(&t, hebap, x)
-        }
-    }
 }
 
 // The first index of least distance from x in the book of the hebap, 0 where it has none. Refusal 5, where it has one.

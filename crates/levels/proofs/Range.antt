@@ -1,17 +1,15 @@
 -- The test of a component's size. Assumes nothing.
 use mathlib.Core.Path.{◌≡◌, refl, sym, ap, ◌∙◌}
-use mathlib.Core.Bool.{or-false, Bool, true, false, cond, not, ◌&&◌, ◌||◌, true≢false}
+use mathlib.Core.Bool.{Bool, true, false, not, ◌&&◌, ◌||◌, true≢false}
 use mathlib.Core.List.{List, ◌∷◌, []}
 use mathlib.Core.Logic.{inl, inr}
 use Prim.Native.Nat.{ℕ, suc, zero, ◌+◌, ◌*◌, ◌≤◌, ◌<◌}
 use native.Mathlib.Nat.{eq-or-lt_of_le, mul-one}
-use native.Mathlib.Numerals.{add-one}
 use native.Mathlib.Omega.{arith}
 use borrow.Author.Tests.{lt-ltb, le-ltb, eq-eqb, ne_eqb, ltb-true, ltb-false}
 use lib.Dec.{ltb, eqb}
 use lib.IntN.{ℤ, pos}
-use lib.ListN.{length, drop, get_or, drop_of_length-le}
-use lib.Seq.{drop-cons}
+use lib.ListN.{length, get_or}
 use lib.Ieee.{Float, nan, inf, fin, up, down, lt, eq, le}
 use lib.Ieee.Fits.{down_pos}
 use Rattle.bits.proofs.Tests.{neither, or_left, or_right}
@@ -62,25 +60,6 @@ range_out nan h = refl
 range_out (inf s) h = refl
 range_out (fin false m e) h = absurd (true≢false (sym (or_left _ _ (lt-ltb 0 (largest_size * down e + m * up e * 1) (let a = above m e in omega arith))) ∙ h))
 range_out (fin true m e) h = sym (sym (lower m e) ∙ h)
-
--- ---- a loop over components
--- one component more, not accepted if t
-or_more : (a t b : Bool) → a || (t || b) ≡ cond (not t) a true || b
-or_more true true b = refl
-or_more true false b = refl
-or_more false true b = refl
-or_more false false b = refl
-
-pub some_turn : (x : List Float) (j : ℕ) → j < length x → (found r b : Bool) → r ≡ not (too_large (get_or x j nan)) → b ≡ cond r found true
-    → some_too_large x ≡ found || some_too_large (drop j x) → some_too_large x ≡ b || some_too_large (drop (j + 1) x)
-some_turn x j h found r b er eb i =
-    let d : drop j x ≡ get_or x j nan ∷ drop (j + 1) x = rw add-one (drop-cons x j nan h) in
-    let rest = some_too_large (drop (j + 1) x) in
-    i ∙ ap (λ (l : List Float). found || some_too_large l) d ∙ or_more found (too_large (get_or x j nan)) rest
-    ∙ sym (ap (λ (t : Bool). t || rest) (eb ∙ ap (λ (t : Bool). cond t found true) er))
-
-pub some_end : (x : List Float) (j : ℕ) → length x ≤ j → (found : Bool) → some_too_large x ≡ found || some_too_large (drop j x) → found ≡ some_too_large x
-some_end x j h found i = sym (i ∙ ap (λ (l : List Float). found || some_too_large l) (drop_of_length-le x h) ∙ or-false found)
 
 -- of components that are accepted each is
 pub each_accepted : (v : List Float) (d : Float) (j : ℕ) → some_too_large v ≡ false → j < length v → too_large (get_or v j d) ≡ false

@@ -18,11 +18,9 @@ use mir.Val.{SFits}
 use Rattle.tables.specs.Tables.{mant_bits}
 use Rattle.tables.proofs.Tests.{each, each_at}
 use Rattle.tables.proofs.Rules.{mant_bits_lem}
-use Rattle.levels.specs.declared.CodeScale.{CodeScale}
 use Rattle.levels.specs.Exact.{slope, offset_by_sign}
-use Rattle.levels.specs.Work.{remap_of, scale_of, IsScale, row_of, scale_at, ScalesLoaded}
+use Rattle.levels.specs.Work.{Scale, remap_of, scale_of, IsScale, row_of, scale_at, AreScales}
 use Rattle.levels.proofs.Sizes.{abs_mul, abs_neg, unit_size, offset_size}
-use Rattle.levels.proofs.Common.{scale_is, small_unit_is, large_unit_is, up_is, below_is}
 
 -- ---- an equation for each number of a range, as one equation of lists
 abbrev pub listed : {A : Type 0} → (ℕ → A) → ℕ → ℕ → List A
@@ -40,47 +38,27 @@ listed_at f f' (suc n) k j e l u =
     ]
 
 -- ---- the rows
-abbrev pub rows : List ℕ → ℕ → CodeScale × (CodeScale × CodeScale)
-rows t h = (scale_at t (33 * (h - 8) + 0) h 1, (scale_at t (33 * (h - 8) + 11) h 2, scale_at t (33 * (h - 8) + 22) h 4))
+abbrev pub rows : List ℕ → ℕ → Scale × (Scale × Scale)
+rows t h = (scale_at t (33 * (h - 8) + 0), (scale_at t (33 * (h - 8) + 11), scale_at t (33 * (h - 8) + 22)))
 
-abbrev pub scales : ℕ → CodeScale × (CodeScale × CodeScale)
+abbrev pub scales : ℕ → Scale × (Scale × Scale)
 scales h = (scale_of h 1, (scale_of h 2, scale_of h 4))
 
--- a gain other than 1 and 2 has what Gk 4 has, but its own number
-abbrev with_gain : ℕ → CodeScale → CodeScale
-with_gain g s =
-    record {
-      hebap = s.hebap;
-      gk = g;
-      remap = s.remap;
-      small = s.small;
-      large = s.large;
-      small_part = s.small_part;
-      large_part = s.large_part;
-      small_unit = s.small_unit;
-      large_unit = s.large_unit;
-      up = s.up;
-      below = s.below;
-    }
-
-other_gain : (h g : ℕ) → eqb g 1 ≡ false → eqb g 2 ≡ false → with_gain g (scale_of h 4) ≡ scale_of h g
+-- a gain other than 1 and 2 has what Gk 4 has
+other_gain : (h g : ℕ) → eqb g 1 ≡ false → eqb g 2 ≡ false → scale_of h 4 ≡ scale_of h g
 unfolding scale_of remap_of
 other_gain h g e e' = rw (e, e')
 
-other_row : (t : List ℕ) (i h g : ℕ) → scale_at t i h g ≡ with_gain g (scale_at t i h 4)
-unfolding scale_at
-other_row t i h g = refl
-
-row_is : (t : List ℕ) → listed (rows t) 12 8 ≡ listed scales 12 8 → (h g : ℕ) → 8 ≤ h → h ≤ 19 → scale_at t (row_of h g) h g ≡ scale_of h g
+row_is : (t : List ℕ) → listed (rows t) 12 8 ≡ listed scales 12 8 → (h g : ℕ) → 8 ≤ h → h ≤ 19 → scale_at t (row_of h g) ≡ scale_of h g
 row_is t e h g l u = go (eqb g 1) refl (eqb g 2) refl
   where
     at_h : rows t h ≡ scales h
     at_h = listed_at (rows t) scales 12 8 h e l (omega arith)
 
-    go : (a : Bool) → eqb g 1 ≡ a → (b : Bool) → eqb g 2 ≡ b → scale_at t (33 * (h - 8) + cond a 0 (cond b 11 22)) h g ≡ scale_of h g
+    go : (a : Bool) → eqb g 1 ≡ a → (b : Bool) → eqb g 2 ≡ b → scale_at t (33 * (h - 8) + cond a 0 (cond b 11 22)) ≡ scale_of h g
     go true p b q = rw (eqb-true g 1 p) (ap (λ r. r.0) at_h)
     go false p true q = rw (eqb-true g 2 q) (ap (λ r. r.1.0) at_h)
-    go false p false q = other_row t (33 * (h - 8) + 22) h g ∙ ap (λ r. with_gain g r.1.1) at_h ∙ other_gain h g p q
+    go false p false q = ap (λ r. r.1.1) at_h ∙ other_gain h g p q
 
 abbrev pub number : ℕ → Bool
 number n = not (nan_bits binary32 n)
@@ -89,8 +67,8 @@ no_nan : (b : Bool) → T (not b) → b ≡ false
 no_nan true t = absurd t
 no_nan false t = refl
 
-pub scales_loaded : (t : List ℕ) → length t ≡ 396 → T (each number t) → T (number 0) → listed (rows t) 12 8 ≡ listed scales 12 8 → ScalesLoaded t
-scales_loaded t w n z e = record { whole = w; numbers = λ i. no_nan _ (each_at number t n 0 z i); each = row_is t e }
+pub are_scales : (t : List ℕ) → length t ≡ 396 → T (each number t) → T (number 0) → listed (rows t) 12 8 ≡ listed scales 12 8 → AreScales t
+are_scales t w n z e = record { whole = w; numbers = λ i. no_nan _ (each_at number t n 0 z i); each = row_is t e }
 
 -- ---- a number's negative
 pub neg_is : (n : ℕ) → pos 0 -ℤ pos n ≡ neg_ℤ (pos n)
@@ -112,59 +90,43 @@ row_end h g l u = go (eqb g 1) (eqb g 2)
     go false true = omega arith
     go false false = omega arith
 
-module _ (t : List ℕ) (loaded : ScalesLoaded t) (h g : ℕ) (low : 8 ≤ h) (high : h ≤ 19) (i : ℕ) (place : i ≡ row_of h g) where
-  is : scale_at t i h g ≡ scale_of h g
-  is = rw place (loaded.each h g low high)
-
-  row_scale : IsScale (scale_at t i h g)
-  row_scale = scale_is h g low high (scale_at t i h g) is
+module _ (t : List ℕ) (all : AreScales t) (h g : ℕ) (low : 8 ≤ h) (high : h ≤ 19) (i : ℕ) (place : i ≡ row_of h g) where
+  is : scale_at t i ≡ scale_of h g
+  is = rw place (all.each h g low high)
 
   pub small_unit_fits : get_or t (i + 7) 0 < 2 ^ 31
-  unfolding scale_at
+  unfolding scale_at scale_of
   small_unit_fits =
       let m = mant_bits_lem h low high in
-      let e : get_or t (i + 7) 0 ≡ 2 ^ (31 - mant_bits h) = ap nat_abs (small_unit_is (scale_at t i h g) row_scale) in
+      let e : get_or t (i + 7) 0 ≡ 2 ^ (31 - mant_bits h) = ap (λ (s : Scale). nat_abs s.small_unit) is in
       rw e (pow-lt {j = 31} (omega arith))
 
   pub large_unit_fits : get_or t (i + 8) 0 < 2 ^ 31
-  unfolding scale_at
+  unfolding scale_at scale_of
   large_unit_fits =
       let z = pos 32768 +ℤ slope h g in
       let p = 2 ^ (cond (eqb g 2) 17 16 - mant_bits h) in
-      let e : get_or t (i + 8) 0 ≡ nat_abs (z *ℤ pos p) = ap nat_abs (large_unit_is (scale_at t i h g) row_scale) in
+      let e : get_or t (i + 8) 0 ≡ nat_abs (z *ℤ pos p) = ap (λ (s : Scale). nat_abs s.large_unit) is in
       rw (e, abs_mul z (pos p)) (unit_size h g low high)
 
   pub up_fits : get_or t (i + 9) 0 < 2 ^ 31
-  unfolding scale_at
+  unfolding scale_at scale_of
   up_fits =
       let b = offset_by_sign h g false in
-      let e : get_or t (i + 9) 0 ≡ nat_abs (b *ℤ pos (2 ^ 15)) = ap nat_abs (up_is (scale_at t i h g) row_scale) in
+      let e : get_or t (i + 9) 0 ≡ nat_abs (b *ℤ pos (2 ^ 15)) = ap (λ (s : Scale). nat_abs s.up) is in
       rw (e, abs_mul b (pos (2 ^ 15))) (offset_size h g low high false)
 
   pub below_fits : get_or t (i + 10) 0 < 2 ^ 31
-  unfolding scale_at
+  unfolding scale_at scale_of
   below_fits =
       let b = offset_by_sign h g true in
-      let e : get_or t (i + 10) 0 ≡ nat_abs (b *ℤ pos (2 ^ 15)) = sym (abs_neg (get_or t (i + 10) 0)) ∙ ap nat_abs (below_is (scale_at t i h g) row_scale) in
+      let e : get_or t (i + 10) 0 ≡ nat_abs (b *ℤ pos (2 ^ 15)) = sym (abs_neg (get_or t (i + 10) 0)) ∙ ap (λ (s : Scale). nat_abs s.below) is in
       rw (e, abs_mul b (pos (2 ^ 15))) (offset_size h g low high true)
 
   -- the whole from its fields
   pub row_is_scale : (a u b x y : Float) (m n : ℕ) (j k p q : ℤ) → a ≡ of_bits binary32 (get_or t (i + 0) 0) → u ≡ of_bits binary32 (get_or t (i + 1) 0)
       → b ≡ of_bits binary32 (get_or t (i + 2) 0) → m ≡ get_or t (i + 5) 0 → n ≡ get_or t (i + 6) 0 → x ≡ of_bits binary32 (get_or t (i + 3) 0)
       → y ≡ of_bits binary32 (get_or t (i + 4) 0) → j ≡ pos (get_or t (i + 7) 0) → k ≡ pos (get_or t (i + 8) 0) → p ≡ pos (get_or t (i + 9) 0) → q ≡ neg_ℤ (pos (get_or t (i + 10) 0))
-      → record {
-        hebap = h;
-        gk = g;
-        remap = record { a = a; up = u; below = b };
-        small = m;
-        large = n;
-        small_part = x;
-        large_part = y;
-        small_unit = j;
-        large_unit = k;
-        up = p;
-        below = q;
-      }
-      ≡ scale_of h g
+      → IsScale h g (record { a = a; up = u; below = b }) m n x y j k p q
   unfolding scale_at
   row_is_scale a u b x y m n j k p q ea eu eb em en ex ey ej ek ep eq = rw (ea, eu, eb, em, en, ex, ey, ej, ek, ep, eq, add-zero i) is

@@ -9,11 +9,11 @@ use borrow.Author.Tests.{lt-ltb, le-ltb}
 use lib.Dec.{T, eqb, lt→ltb, le→leb}
 use lib.Ieee.{binary32, in_float}
 use lib.IntN.{ℤ, pos, negsuc, ◌-ℤ◌}
-use lib.Pow.{pow_pos, pow_mono, pow-lt}
+use lib.Pow.{pow_pos, pow_mono}
 use lib.Signed.{mag}
 use mir.Syntax.{Width, w32}
 use mir.Val.{to_z, of_z, hbits}
-use mir.ValLaws.{to_z_pos, to_z-of_z}
+use mir.ValLaws.{to_z-of_z}
 use Rattle.tables.specs.Tables.{mant_bits}
 use Rattle.tables.proofs.Tests.{lt_or_le}
 use Rattle.levels.specs.declared.Code.{Code}
@@ -32,13 +32,6 @@ pub in_float_lem : (z : ℤ) → mag z < 2 ^ 24 → T (in_float binary32 z)
 unfolding in_float
 in_float_lem (pos n) h = le→leb n (2 ^ 24) (omega arith)
 in_float_lem (negsuc n) h = lt→ltb n (2 ^ 24) h
-
--- a power of two, as a number with a sign
-pub power_fits : (r n : ℕ) → n < 31 → r ≡ 2 ^ n → r < 2 ^ 31
-power_fits r n h e = rw e (pow-lt {j = 31} h)
-
-pub cast_power : (r n : ℕ) → n < 31 → r ≡ 2 ^ n → to_z w32 r ≡ pos (2 ^ n)
-cast_power r n h e = to_z_pos w32 r (power_fits r n h e) ∙ ap pos e
 
 -- ---- two's complement
 

@@ -1,11 +1,10 @@
 -- How values and bits of codes are found fast: no meaning of its own. The laws that join it to Codes, Exact and Value
 -- are `remap_by_lem` (proofs/Remapping.antt), those of proofs/Common.antt, and the writer's `word_bits_lem`.
-use Rattle.std.specs.Prelude.{ℕ, ◌+◌, ◌-◌, ◌*◌, ◌^◌, ◌≤◌, ◌≡◌, false, cond, List, eqb, pos, neg_ℤ, ◌+ℤ◌, ◌*ℤ◌, length, get_or, Float}
+use Rattle.std.specs.Prelude.{ℕ, ◌+◌, ◌-◌, ◌*◌, ◌^◌, ◌≤◌, ◌≡◌, false, cond, List, eqb, ℤ, pos, neg_ℤ, ◌+ℤ◌, ◌*ℤ◌, length, get_or, Float}
 use Rattle.std.specs.Float.{binary32}
 use Rattle.std.specs.Float.Ieee.{of_bits, nan_bits, add, mul, div, le}
 use Rattle.tables.specs.Tables.{mant_bits}
 use Rattle.levels.specs.declared.Code.{Code}
-use Rattle.levels.specs.declared.CodeScale.{CodeScale}
 use Rattle.levels.specs.declared.Remap.{Remap}
 use Rattle.levels.specs.Codes.{tag, small_bits, large_bits}
 use Rattle.levels.specs.Exact.{slope, offset, offset_below}
@@ -24,11 +23,20 @@ unfoldable pub remap_by : Remap → Float → Float
 remap_by r x = add binary32 (add binary32 x (mul binary32 r.a x)) (cond (le f0 x) r.up r.below)
 
 -- ---- what every code of a hebap and a gain has in common, computed once for many codes
-unfoldable pub scale_of : ℕ → ℕ → CodeScale
+pub record Scale : Type 0 where
+  pub remap : Remap
+  pub small : ℕ
+  pub large : ℕ
+  pub small_part : Float
+  pub large_part : Float
+  pub small_unit : ℤ
+  pub large_unit : ℤ
+  pub up : ℤ
+  pub below : ℤ
+
+unfoldable pub scale_of : ℕ → ℕ → Scale
 scale_of h g =
     record {
-      hebap = h;
-      gk = g;
       remap = remap_of h g;
       small = small_bits (mant_bits h) g;
       large = large_bits (mant_bits h) g;
@@ -40,23 +48,20 @@ scale_of h g =
       below = offset_below h g *ℤ pos (2 ^ 15);
     }
 
--- a scale is that of the hebap and the gain that it names
-pub record IsScale (s : CodeScale) : Type 0 where
-  pub low : 8 ≤ s.hebap
-  pub high : s.hebap ≤ 19
-  pub is : s ≡ scale_of s.hebap s.gk
+-- the parts of a `CodeScale` are those of the hebap and the gain that it names
+abbrev pub IsScale : ℕ → ℕ → Remap → ℕ → ℕ → Float → Float → ℤ → ℤ → ℤ → ℤ → Type 0
+IsScale h g r s l x y i j u b =
+    record { remap = r; small = s; large = l; small_part = x; large_part = y; small_unit = i; large_unit = j; up = u; below = b } ≡ scale_of h g
 
--- ---- the same as a table, made once and lent: a row of eleven numbers for each hebap and gain
+-- ---- the same as a table: a row of eleven numbers for each hebap and gain
 -- where the row of a hebap and a gain starts
 abbrev pub row_of : ℕ → ℕ → ℕ
 row_of h g = 33 * (h - 8) + cond (eqb g 1) 0 (cond (eqb g 2) 11 22)
 
 -- the row from the place i on: fractions by their bit patterns, b for numbers below 0 by its size
-unfoldable pub scale_at : List ℕ → ℕ → ℕ → ℕ → CodeScale
-scale_at t i h g =
+unfoldable pub scale_at : List ℕ → ℕ → Scale
+scale_at t i =
     record {
-      hebap = h;
-      gk = g;
       remap = record { a = of_bits binary32 (get_or t i 0); up = of_bits binary32 (get_or t (i + 1) 0); below = of_bits binary32 (get_or t (i + 2) 0) };
       small = get_or t (i + 5) 0;
       large = get_or t (i + 6) 0;
@@ -69,7 +74,7 @@ scale_at t i h g =
     }
 
 -- every row is the scale of its hebap and gain, and no number is a NaN's bit pattern: `from_bits` asks that
-pub record ScalesLoaded (t : List ℕ) : Type 0 where
+pub record AreScales (t : List ℕ) : Type 0 where
   pub whole : length t ≡ 396
   pub numbers : (i : ℕ) → nan_bits binary32 (get_or t i 0) ≡ false
-  pub each : (h g : ℕ) → 8 ≤ h → h ≤ 19 → scale_at t (row_of h g) h g ≡ scale_of h g
+  pub each : (h g : ℕ) → 8 ≤ h → h ≤ 19 → scale_at t (row_of h g) ≡ scale_of h g

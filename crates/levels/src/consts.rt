@@ -2,7 +2,7 @@
 
 // By bit patterns: a and b (for x >= 0 and for x < 0) as fractions, 1 / 2^(m-1), 1 / 2^(bits of a large code - 1);
 // then the bits of small and of large codes; a step of each and both b, the second by its size, in units of 2^-30.
-pub const SCALES: [u32; 396] = [
+pub static SCALES: [u32; 396] = [
     0x3e124800, 0x00000000, 0x00000000, 0x3e800000, 0x3e800000, 1, 3, 268435456, 306782208, 0, 0,
     0xbeaaac00, 0x3f000000, 0xbe2aa800, 0x3e800000, 0x3f000000, 2, 2, 268435456, 357908480,
     536870912, 178946048, 0xbe124800, 0x3e800000, 0xbd124000, 0x3e800000, 0x3e800000, 1, 3,

@@ -10,7 +10,7 @@ ghost use Rattle.levels.specs.Component.{too_large, some_too_large};
 ghost use Rattle.levels.specs.Codes.{signed, small_bits, large_bits, code_bits, Accepted};
 ghost use Rattle.levels.specs.Exact.{slope, offset_by_sign, exact_of};
 ghost use Rattle.levels.specs.Value.{q15, power, gaq_remap, level_of, divided, value_in, value_of};
-ghost use Rattle.levels.specs.Work.{remap_of, remap_by, scale_of, IsScale, row_of, ScalesLoaded};
+ghost use Rattle.levels.specs.Work.{remap_of, remap_by, IsScale, row_of, AreScales};
 
 mod consts;
 
@@ -85,10 +85,7 @@ pub const LARGEST_SIZE: f32 = 16384.0;
 pub fn in_range(x: f32) -> bool
     ensures { result ≡ not (too_large x) }
 {
-    if x >= -LARGEST_SIZE {
-        return x <= LARGEST_SIZE;
-    }
-    false
+    -LARGEST_SIZE <= x && x <= LARGEST_SIZE
 }
 
 // Whether some component is not accepted. No early exit, so that the loop is vectorised.
@@ -96,10 +93,8 @@ pub fn any_too_large(x: &[f32]) -> bool
     ensures { result ≡ some_too_large x.now }
 {
     let mut found = false;
-    let mut j: usize = 0;
-    while j < x.len() {
-        found = if in_range(x[j]) { found } else { true };
-        j += 1;
+    for &component in x {
+        found |= !in_range(component);
     }
     found
 }
@@ -211,24 +206,6 @@ fn times(x: i32, y: i32) -> i32
     x * y
 }
 
-// 1 + a, in units of 2^-15
-fn one_plus_slope(hebap: u8, gk: u8) -> i32
-    requires { (8 ≤ hebap) × (hebap ≤ 19) }
-    ensures { result ≡ pos 32768 +ℤ slope hebap gk }
-{
-    32768 + slope_at(hebap, gk) as i32
-}
-
-// 2^(17 - m) at Gk 2, 2^(16 - m) else
-#[tactic(auto, using(tables::proofs::Rules::mant_bits_lem))]
-fn power_at(hebap: u8, gk: u8) -> i32
-    requires { (8 ≤ hebap) × (hebap ≤ 19) }
-    ensures { result ≡ pos (2 ^ (cond (eqb gk 2) 17 16 - mant_bits hebap)) }
-{
-    let most: u32 = if gk == 2 { 17 } else { 16 };
-    bits::pow2(most - mant(hebap)) as i32
-}
-
 // ---- many codes of one hebap and gain
 
 // What they have in common: the remap; the bits of small and of large codes; the fractions 1 / 2^(m-1) and, for
@@ -246,35 +223,15 @@ pub struct CodeScale {
     pub large_unit: i32,
     pub up: i32,
     pub below: i32,
+    pub ghost known: { (8 ≤ hebap) × (hebap ≤ 19) },
+    pub ghost is: { IsScale hebap gk remap small large small_part large_part small_unit large_unit up below },
 }
 
-pub fn scale_of(hebap: u8, gk: u8) -> CodeScale
-    requires { (8 ≤ hebap) × (hebap ≤ 19) }
-    ensures { result ≡ scale_of hebap gk }
+// The scales of all hebaps and gains, a row each: computing a scale takes longer than reading a bin.
+fn scales() -> &'static [u32]
+    ensures { AreScales result.now }
 {
-    let m = mant(hebap);
-    let large = large_bits(m, gk);
-    CodeScale {
-        hebap,
-        gk,
-        remap: remap_of(hebap, gk),
-        small: small_bits(m, gk),
-        large,
-        small_part: 1.0 / scale(m - 1),
-        large_part: 1.0 / scale(large - 1),
-        small_unit: bits::pow2(31 - m) as i32,
-        large_unit: times(one_plus_slope(hebap, gk), power_at(hebap, gk)),
-        up: times(offset_by_sign(hebap, gk, false) as i32, 32768),
-        below: times(offset_by_sign(hebap, gk, true) as i32, 32768),
-    }
-}
-
-// The scales of all hebaps and gains, a row each. Where many bins are read it is built once and lent: computing a
-// scale takes longer than reading a bin.
-pub fn scales() -> [u32; 396]
-    ensures { ScalesLoaded result }
-{
-    consts::SCALES
+    &consts::SCALES
 }
 
 // The number k of the row from the place i on: as it stands, as a fraction, and as a whole number.
@@ -317,11 +274,11 @@ fn row_of(hebap: u8, gk: u8) -> usize
 }
 
 // The scale of a hebap and a gain, out of the table.
-pub fn scale_at(t: &[u32], hebap: u8, gk: u8) -> CodeScale
-    requires le_hebap { (8 ≤ hebap) × (hebap ≤ 19) }
-    requires scales_loaded { ScalesLoaded t.now }
-    ensures { result ≡ scale_of hebap gk }
+pub fn scale_at(hebap: u8, gk: u8) -> CodeScale
+    requires { (8 ≤ hebap) × (hebap ≤ 19) }
+    ensures { (result.hebap ≡ hebap) × (result.gk ≡ gk) }
 {
+    let t = scales();
     let i = row_of(hebap, gk);
     CodeScale {
         hebap,
@@ -344,7 +301,6 @@ pub fn scale_at(t: &[u32], hebap: u8, gk: u8) -> CodeScale
 
 // The kind and the f32 value of a code.
 pub fn level_of(s: CodeScale, code: Code) -> Level
-    requires scale { IsScale s }
     requires accepted { Accepted s.hebap s.gk code }
     ensures { result ≡ level_of s.hebap s.gk code }
 {
@@ -358,7 +314,6 @@ pub fn level_of(s: CodeScale, code: Code) -> Level
 
 // The exact value of a code.
 pub fn exact_value(s: CodeScale, code: Code) -> i32
-    requires scale { IsScale s }
     requires accepted { Accepted s.hebap s.gk code }
     ensures { result ≡ exact_of s.hebap s.gk code }
 {
@@ -375,7 +330,6 @@ pub fn exact_value(s: CodeScale, code: Code) -> i32
 // ---- codes of Gk 1: all are large and b is 0, so no branch goes by their sign
 
 pub fn fixed_value(s: CodeScale, u: u32) -> f32
-    requires scale { IsScale s }
     requires gk_value { s.gk ≡ 1 }
     requires accepted { Accepted s.hebap s.gk (Code.Large u) }
     ensures { result ≡ value_of s.hebap s.gk (Code.Large u) }
@@ -385,7 +339,6 @@ pub fn fixed_value(s: CodeScale, u: u32) -> f32
 }
 
 pub fn fixed_exact(s: CodeScale, u: u32) -> i32
-    requires scale { IsScale s }
     requires gk_value { s.gk ≡ 1 }
     requires accepted { Accepted s.hebap s.gk (Code.Large u) }
     ensures { result ≡ exact_of s.hebap s.gk (Code.Large u) }

@@ -3,8 +3,6 @@
 
 ghost use Rattle.std.specs.Prelude.{◌≡◌, ◌||◌, ◌+◌, ◌-◌, ◌*◌, ◌<◌, ◌≤◌, ltb, length};
 ghost use Rattle.bits.specs.Bits.{bit_at, Inside};
-ghost use Rattle.levels.specs.Work.{ScalesLoaded};
-ghost use Rattle.books.specs.Work.{VectorsLoaded};
 ghost use Rattle.channel.specs.Row.{RowOk};
 ghost use Rattle.channel.specs.Field.{field};
 ghost use Rattle.reader.specs.Reading.{call, found, answer_to, values_after, exact_after, indices_after};
@@ -60,8 +58,6 @@ fn read_known(
     exact: &mut [i32],
     indices: &mut [u16],
     gains: &mut [u8],
-    loaded: &[i16],
-    scales: &[u32],
     v: &mut [f32],
     e: &mut [i32],
     x: &mut [u16],
@@ -70,8 +66,6 @@ fn read_known(
     requires inside { Inside (8 * length src.now) pos }
     requires long { Long end (outputs values.old exact.old indices.old) }
     requires gains_len { length gains.old ≡ 256 }
-    requires vectors_loaded { VectorsLoaded loaded.now }
-    requires scales_loaded { ScalesLoaded scales.now }
     requires v_len { (length v.old ≡ 1536) × (length e.old ≡ 1536) × (length x.old ≡ 256) }
     ensures reads { Reads (field_answer (8 * length src.now)) ((field hebap.now start end).dec (bits_from src.now pos)) result
         (λ c. GainsPut gains.old gains.new c.gains) }
@@ -80,7 +74,7 @@ fn read_known(
         ((field hebap.now start end).dec (bits_from src.now pos)) }
 {
     let r = whole_field::read_field(
-        src, pos, hebap, start, end, gains, loaded, scales, &mut *v, &mut *e, &mut *x,
+        src, pos, hebap, start, end, gains, &mut *v, &mut *e, &mut *x,
     );
     match r {
         FieldResult::Refused(k) => FieldResult::Refused(k),
@@ -102,15 +96,11 @@ fn read_with(
     exact: &mut [i32],
     indices: &mut [u16],
     gains: &mut [u8],
-    loaded: &[i16],
-    scales: &[u32],
     v: &mut [f32],
     e: &mut [i32],
     x: &mut [u16],
 ) -> FieldResult
     requires gains_len { length gains.old ≡ 256 }
-    requires vectors_loaded { VectorsLoaded loaded.now }
-    requires scales_loaded { ScalesLoaded scales.now }
     requires v_len { (length v.old ≡ 1536) × (length e.old ≡ 1536) × (length x.old ≡ 256) }
     ensures reads { Reads (field_answer (8 * length src.now)) (found hebap.now start end
         (call src.now (bit_at pos) values.old exact.old indices.old)) result
@@ -135,8 +125,6 @@ fn read_with(
             exact,
             indices,
             gains,
-            loaded,
-            scales,
             v,
             e,
             x,
@@ -204,15 +192,11 @@ pub fn read_aht_channel(
         (call src.now (bit_at pos) values.old exact.old indices.old) }
 {
     let mut gains = channel::no_gains();
-    let mut vectors = [0i16; 5736];
-    books::load_vectors(&mut vectors);
-    let scales = levels::scales();
     let mut v = [0.0f32; 1536];
     let mut e = [0i32; 1536];
     let mut x = [0u16; 256];
     let r = read_with(
-        src, pos, hebap, start, end, values, exact, indices, &mut gains, &vectors, &scales, &mut v,
-        &mut e, &mut x,
+        src, pos, hebap, start, end, values, exact, indices, &mut gains, &mut v, &mut e, &mut x,
     );
     answer(r, gains, pos)
 }

@@ -2,10 +2,8 @@
 ghost use Rattle.std.specs.Prelude.{◌≡◌, ◌∷◌, [], ◌+◌, ◌*◌, ◌^◌, ◌<◌, ◌≤◌, pos, length, replicate};
 ghost use Rattle.bits.specs.Bits.{splice, Inside};
 ghost use Rattle.levels.specs.Value.{f0};
-ghost use Rattle.levels.specs.Work.{ScalesLoaded};
 ghost use Rattle.tables.specs.Tables.{vq_bits};
 ghost use Rattle.books.specs.Books.{vq_lookup, vq_exact};
-ghost use Rattle.books.specs.Work.{VectorsLoaded};
 ghost use Rattle.bits.specs.Format.{move_answer};
 ghost use Rattle.channel.specs.Field.{book, scalar, lenient, item, bin_of};
 ghost use Rattle.reader.specs.Work.{bits_from, Reads, outputs, Long, BinPut};
@@ -18,19 +16,17 @@ pub fn put_index(
     hebap: u8,
     i: u32,
     bin: usize,
-    loaded: &[i16],
     values: &mut [f32],
     exact: &mut [i32],
     indices: &mut [u16],
 )
     requires le_hebap { (1 ≤ hebap) × (hebap ≤ 7) × (i < 2 ^ vq_bits hebap) }
-    requires vectors_loaded { VectorsLoaded loaded.now }
     requires bin_bound { (bin < 256) × Long (bin + 1) (outputs values.old exact.old indices.old) }
     ensures values_after { values.new ≡ splice values.old (6 * bin) (vq_lookup hebap i) }
     ensures exact_after { exact.new ≡ splice exact.old (6 * bin) (vq_exact hebap i) }
     ensures indices_after { indices.new ≡ splice indices.old bin (i ∷ []) }
 {
-    books::put_vector(loaded, hebap, i as usize, 6 * bin, values, exact);
+    books::put_vector(hebap, i as usize, 6 * bin, values, exact);
     indices[bin] = i as u16;
 }
 
@@ -40,14 +36,12 @@ pub fn read_index(
     pos: BitPos,
     hebap: u8,
     bin: usize,
-    loaded: &[i16],
     values: &mut [f32],
     exact: &mut [i32],
     indices: &mut [u16],
 ) -> BitMove
     requires le_hebap { (1 ≤ hebap) × (hebap ≤ 7) }
     requires inside { Inside (8 * length src.now) pos }
-    requires vectors_loaded { VectorsLoaded loaded.now }
     requires bin_bound { (bin < 256) × Long (bin + 1) (outputs values.old exact.old indices.old) }
     ensures { Reads (move_answer (8 * length src.now)) ((item lenient (book hebap)).dec (bits_from src.now pos)) result
         (BinPut bin (book hebap) (outputs values.old exact.old indices.old)
@@ -57,14 +51,14 @@ pub fn read_index(
     let byte = pos.byte;
     if byte + 4 <= src.len() {
         let i = pos.peek_word(src, n);
-        put_index(hebap, i, bin, loaded, values, exact, indices);
+        put_index(hebap, i, bin, values, exact, indices);
         return BitMove::Done(pos.advance_bits(n));
     }
     if !pos.has_bits(src.len(), 1, n as usize) {
         return BitMove::Refused(answers::INPUT_ENDS);
     }
     let i = pos.peek(src, n);
-    put_index(hebap, i, bin, loaded, values, exact, indices);
+    put_index(hebap, i, bin, values, exact, indices);
     BitMove::Done(pos.advance_bits(n))
 }
 
@@ -92,21 +86,19 @@ pub fn read_codes(
     hebap: u8,
     gk: u8,
     bin: usize,
-    scales: &[u32],
     values: &mut [f32],
     exact: &mut [i32],
     indices: &mut [u16],
 ) -> BitMove
     requires le_hebap { (8 ≤ hebap) × (hebap ≤ 19) }
     requires inside { Inside (8 * length src.now) pos }
-    requires scales_loaded { ScalesLoaded scales.now }
     requires bin_bound { (bin < 256) × Long (bin + 1) (outputs values.old exact.old indices.old) }
     ensures { Reads (move_answer (8 * length src.now)) ((item lenient (scalar hebap gk)).dec (bits_from src.now pos)) result
         (BinPut bin (scalar hebap gk) (outputs values.old exact.old indices.old)
         (outputs values.new exact.new indices.new)) }
 {
     indices[bin] = 0;
-    let s = levels::scale_at(scales, hebap, gk);
+    let s = levels::scale_at(hebap, gk);
     scalars::read_six(s, src, pos, 6 * bin, values, exact)
 }
 
@@ -118,16 +110,12 @@ pub fn read_bin(
     hebap: u8,
     gk: u8,
     bin: usize,
-    loaded: &[i16],
-    scales: &[u32],
     values: &mut [f32],
     exact: &mut [i32],
     indices: &mut [u16],
 ) -> BitMove
     requires hebap_bound { hebap ≤ 19 }
     requires inside { Inside (8 * length src.now) pos }
-    requires vectors_loaded { VectorsLoaded loaded.now }
-    requires scales_loaded { ScalesLoaded scales.now }
     requires bin_bound { (bin < 256) × Long (bin + 1) (outputs values.old exact.old indices.old) }
     ensures { Reads (move_answer (8 * length src.now)) ((item lenient (bin_of mode hebap gk)).dec (bits_from src.now pos)) result
         (BinPut bin (bin_of mode hebap gk) (outputs values.old exact.old indices.old)
@@ -138,8 +126,8 @@ pub fn read_bin(
             put_zeros(bin, values, exact, indices);
             BitMove::Done(pos)
         }
-        Coding::Book => read_index(src, pos, hebap, bin, loaded, values, exact, indices),
-        Coding::Fixed => read_codes(src, pos, hebap, 1, bin, scales, values, exact, indices),
-        Coding::Adaptive => read_codes(src, pos, hebap, gk, bin, scales, values, exact, indices),
+        Coding::Book => read_index(src, pos, hebap, bin, values, exact, indices),
+        Coding::Fixed => read_codes(src, pos, hebap, 1, bin, values, exact, indices),
+        Coding::Adaptive => read_codes(src, pos, hebap, gk, bin, values, exact, indices),
     }
 }

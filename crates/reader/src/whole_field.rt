@@ -2,8 +2,6 @@
 ghost use Rattle.std.specs.Prelude.{◌≡◌, ◌*◌, ◌≤◌, length};
 ghost use Rattle.bits.specs.Bits.{Inside};
 ghost use Rattle.bits.specs.Format.{each};
-ghost use Rattle.levels.specs.Work.{ScalesLoaded};
-ghost use Rattle.books.specs.Work.{VectorsLoaded};
 ghost use Rattle.bits.specs.Format.{move_answer};
 ghost use Rattle.channel.specs.Row.{RowOk};
 ghost use Rattle.channel.specs.Field.{lenient, item, bins_of, behind_mode, field};
@@ -22,16 +20,12 @@ pub fn read_bins(
     start: usize,
     end: usize,
     gains: &[u8],
-    loaded: &[i16],
-    scales: &[u32],
     values: &mut [f32],
     exact: &mut [i32],
     indices: &mut [u16],
 ) -> BitMove
     requires row_ok { RowOk row.now start end }
     requires inside { Inside (8 * length src.now) pos }
-    requires vectors_loaded { VectorsLoaded loaded.now }
-    requires scales_loaded { ScalesLoaded scales.now }
     requires long { Long end (outputs values.old exact.old indices.old) }
     ensures { Reads (move_answer (8 * length src.now)) ((each (item lenient) (bins_of mode gains.now row.now start end)
         ).dec (bits_from src.now pos)) result
@@ -52,8 +46,6 @@ pub fn read_bins(
             hebap,
             gk,
             bin,
-            loaded,
-            scales,
             &mut *values,
             &mut *exact,
             &mut *indices,
@@ -81,8 +73,6 @@ pub fn read_behind(
     start: usize,
     end: usize,
     gains: &mut [u8],
-    loaded: &[i16],
-    scales: &[u32],
     values: &mut [f32],
     exact: &mut [i32],
     indices: &mut [u16],
@@ -91,8 +81,6 @@ pub fn read_behind(
     requires row_ok { RowOk row.now start end }
     requires inside { Inside (8 * length src.now) pos }
     requires gains_len { length gains.old ≡ 256 }
-    requires vectors_loaded { VectorsLoaded loaded.now }
-    requires scales_loaded { ScalesLoaded scales.now }
     requires long { Long end (outputs values.old exact.old indices.old) }
     ensures { Reads (behind_answer mode (8 * length src.now)) ((behind_mode lenient row.now start end mode
         ).dec (bits_from src.now pos)) result
@@ -113,8 +101,6 @@ pub fn read_behind(
                 start,
                 end,
                 &gains[..n],
-                loaded,
-                scales,
                 values,
                 exact,
                 indices,
@@ -135,8 +121,6 @@ pub fn read_field(
     start: usize,
     end: usize,
     gains: &mut [u8],
-    loaded: &[i16],
-    scales: &[u32],
     values: &mut [f32],
     exact: &mut [i32],
     indices: &mut [u16],
@@ -144,8 +128,6 @@ pub fn read_field(
     requires row_ok { RowOk row.now start end }
     requires inside { Inside (8 * length src.now) pos }
     requires gains_len { length gains.old ≡ 256 }
-    requires vectors_loaded { VectorsLoaded loaded.now }
-    requires scales_loaded { ScalesLoaded scales.now }
     requires long { Long end (outputs values.old exact.old indices.old) }
     ensures { Reads (field_answer (8 * length src.now)) ((field row.now start end).dec (bits_from src.now pos)) result
         (λ c. GainsPut gains.old gains.new c.gains
@@ -156,7 +138,7 @@ pub fn read_field(
     match m {
         BitRead::Refused(k) => FieldResult::Refused(k),
         BitRead::Number(mode, next) => read_behind(
-            src, next, mode as u8, row, start, end, gains, loaded, scales, values, exact, indices,
+            src, next, mode as u8, row, start, end, gains, values, exact, indices,
         ),
     }
 }

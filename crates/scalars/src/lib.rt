@@ -8,7 +8,6 @@ ghost use Rattle.tables.specs.Tables.{mant_bits};
 ghost use Rattle.levels.specs.Codes.{tagged, coded, six, Accepted};
 ghost use Rattle.levels.specs.Exact.{exact_of};
 ghost use Rattle.levels.specs.Value.{f0, value_of};
-ghost use Rattle.levels.specs.Work.{IsScale};
 ghost use Rattle.bits.specs.Format.{move_answer};
 ghost use Rattle.scalars.specs.Scalars.{code_in, gain_of, values_read, bin_read, scalars_read, scalars_after};
 ghost use Rattle.scalars.specs.Work.{CodeNext, six_values, six_exacts};
@@ -62,7 +61,6 @@ pub fn read_code(src: &[u8], pos: BitPos, hebap: u8, gk: u8) -> Result<(Code, Bi
 
 // The f32 and the exact value of a code go to the place `at`.
 fn put_values(s: CodeScale, code: Code, at: usize, values: &mut [f32], exact: &mut [i32])
-    requires scale { IsScale s }
     requires accepted { Accepted s.hebap s.gk code }
     requires at_in_bounds { (at < length values.old) × (at < length exact.old) }
     ensures values_after { values.new ≡ set values.old at (value_of s.hebap s.gk code) }
@@ -81,7 +79,6 @@ fn read_fixed(
     values: &mut [f32],
     exact: &mut [i32],
 ) -> BitPos
-    requires scale { IsScale s }
     requires gk_value { s.gk ≡ 1 }
     requires bit_bound { (pos.bit < 8) × (pos.byte + 28 ≤ length src.now) }
     requires at_in_bounds { (at + 6 ≤ length values.old) × (at + 6 ≤ length exact.old) }
@@ -102,7 +99,6 @@ fn read_fixed(
 
 // The code of another gain that stands at pos, bounds-checked by the caller.
 fn code_ahead(s: CodeScale, src: &[u8], pos: BitPos) -> CodeAhead
-    requires scale { IsScale s }
     requires fact { s.gk ≡ 1 → ⊥ }
     requires bit_bound { (pos.bit < 8) × (pos.byte + 8 ≤ length src.now) }
     ensures src_value { (coded (mant_bits s.hebap) s.gk).dec (drop (bit_at pos) (bits_of src.now)) ≡ got result.code (drop (bit_at pos + result.bits) (bits_of src.now)) }
@@ -132,7 +128,6 @@ fn read_small_or_large(
     values: &mut [f32],
     exact: &mut [i32],
 ) -> BitPos
-    requires scale { IsScale s }
     requires fact { s.gk ≡ 1 → ⊥ }
     requires bit_bound { (pos.bit < 8) × (pos.byte + 28 ≤ length src.now) }
     requires at_in_bounds { (at + 6 ≤ length values.old) × (at + 6 ≤ length exact.old) }
@@ -159,7 +154,6 @@ fn read_each(
     values: &mut [f32],
     exact: &mut [i32],
 ) -> Result<BitPos, Refusal>
-    requires scale { IsScale s }
     requires inside { Inside (8 * length src.now) pos }
     requires at_in_bounds { (at + 6 ≤ length values.old) × (at + 6 ≤ length exact.old) }
     ensures value { result ≡ move_answer (8 * length src.now) ((six (mant_bits s.hebap) s.gk).dec (drop (bit_at pos) (bits_of src.now))) }
@@ -185,7 +179,6 @@ pub fn read_six(
     values: &mut [f32],
     exact: &mut [i32],
 ) -> Result<BitPos, Refusal>
-    requires scale { IsScale s }
     requires inside { Inside (8 * length src.now) pos }
     requires at_in_bounds { (at + 6 ≤ length values.old) × (at + 6 ≤ length exact.old) }
     ensures value { result ≡ move_answer (8 * length src.now) ((six (mant_bits s.hebap) s.gk).dec (drop (bit_at pos) (bits_of src.now))) }
@@ -226,7 +219,7 @@ fn read_values(
     ensures value { result ≡ move_answer (8 * length src.now) (values_read hebap gk (drop (bit_at pos) (bits_of src.now))) }
     ensures out_after { out.new ≡ scalars_after out.old (values_read hebap gk (drop (bit_at pos) (bits_of src.now))) }
 {
-    let s = levels::scale_of(hebap, gk);
+    let s = levels::scale_at(hebap, gk);
     let mut values = [0.0f32; 6];
     let mut exact = [0i32; 6];
     let next = read_each(s, src, pos, 0, &mut values, &mut exact)?;

@@ -1,9 +1,11 @@
 -- What holds of the tables at every hebap: the `tt` in a lemma is its test of the whole table. Assumes nothing.
 use Prim.Native.Nat.{ℕ, ◌+◌, ◌-◌, ◌*◌, ◌^◌, ◌≤◌, ◌<◌}
 use mathlib.Core.Path.{◌≡◌}
-use mathlib.Core.Bool.{Bool, ◌&&◌}
+use mathlib.Core.Bool.{Bool, false, ◌&&◌}
+use mathlib.Core.List.{[]}
 use mathlib.Core.Logic.{◌⊎◌, inl, inr}
 use native.Mathlib.Omega.{arith}
+use borrow.Author.Tests.{ne_eqb}
 use lib.Dec.{T, eqb, leb, ltb, eqb→eq, leb→le, ltb→lt}
 use lib.IntN.{ℤ, pos}
 use lib.ListN.{length, get_or, get_or-eq_default}
@@ -70,3 +72,10 @@ unfolding book vq_hebap1 vq_hebap2 vq_hebap3 vq_hebap4 vq_hebap5 vq_hebap6 vq_he
 book_fits h i l u =
     ltb→lt (mag (get_or (book h) i (pos 0))) (2 ^ 15)
     (each_at fits (book h) (every_at (λ k. each fits (book k)) 7 1 h tt l (omega arith)) (pos 0) tt i)
+
+-- none where it is not 1 to 7
+pub no_book : (h : ℕ) → ((k : ℕ) → 1 ≤ k → k ≤ 7 → h ≡ k → ⊥) → book h ≡ []
+unfolding book
+no_book h n =
+    let no : (k : ℕ) → 1 ≤ k → k ≤ 7 → eqb h k ≡ false = λ k a b. ne_eqb h k (n k a b) in
+    rw (no 1 (omega arith) (omega arith), no 2 (omega arith) (omega arith), no 3 (omega arith) (omega arith), no 4 (omega arith) (omega arith), no 5 (omega arith) (omega arith), no 6 (omega arith) (omega arith), no 7 (omega arith) (omega arith))

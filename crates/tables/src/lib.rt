@@ -75,45 +75,18 @@ pub fn hebap_from_address(psd: i16, mask_after_floor: i32) -> Result<u8, Refusal
     Ok(hebap_at(address))
 }
 
-// The books, each by value: build one once where it is used many times, and lend it as a slice.
-pub fn vq_hebap1() -> [i16; 24]
-    ensures { result ≡ book 1 }
+// The book of a hebap, six numbers a vector; no number where the hebap has none.
+pub fn vq_book(hebap: u8) -> &'static [i16]
+    ensures { result.now ≡ book hebap }
 {
-    consts::VQ_HEBAP1
-}
-
-pub fn vq_hebap2() -> [i16; 48]
-    ensures { result ≡ book 2 }
-{
-    consts::VQ_HEBAP2
-}
-
-pub fn vq_hebap3() -> [i16; 96]
-    ensures { result ≡ book 3 }
-{
-    consts::VQ_HEBAP3
-}
-
-pub fn vq_hebap4() -> [i16; 192]
-    ensures { result ≡ book 4 }
-{
-    consts::VQ_HEBAP4
-}
-
-pub fn vq_hebap5() -> [i16; 768]
-    ensures { result ≡ book 5 }
-{
-    consts::VQ_HEBAP5
-}
-
-pub fn vq_hebap6() -> [i16; 1536]
-    ensures { result ≡ book 6 }
-{
-    consts::VQ_HEBAP6
-}
-
-pub fn vq_hebap7() -> [i16; 3072]
-    ensures { result ≡ book 7 }
-{
-    consts::VQ_HEBAP7
+    match hebap {
+        1 => &consts::VQ_HEBAP1,
+        2 => &consts::VQ_HEBAP2,
+        3 => &consts::VQ_HEBAP3,
+        4 => &consts::VQ_HEBAP4,
+        5 => &consts::VQ_HEBAP5,
+        6 => &consts::VQ_HEBAP6,
+        7 => &consts::VQ_HEBAP7,
+        _ => &[],
+    }
 }

@@ -3,7 +3,6 @@
 
 ghost use Rattle.std.specs.Prelude.{◌≡◌, ◌*◌, ◌<◌, ◌≤◌, false, length, drop};
 ghost use Rattle.bits.specs.Bits.{bits_n, bit_at};
-ghost use Rattle.books.specs.Work.{FractionsLoaded};
 ghost use Rattle.channel.specs.Row.{RowOk};
 ghost use Rattle.channel.specs.Field.{gain_code, packed, book, scalar, bin_of, field};
 ghost use Rattle.planner.specs.Choice.{Choice};
@@ -117,37 +116,27 @@ fn write_group_words(out: &mut [u8], p: BitPos, gains: &[u8]) -> BitPos
 }
 
 // The index that the search picks for a bin, where there is room for it; the position behind it.
-fn write_index(out: &mut [u8], p: BitPos, hebap: u8, x: &[f32], loaded: &[u32]) -> BitPos
+fn write_index(out: &mut [u8], p: BitPos, hebap: u8, x: &[f32]) -> BitPos
     requires le_hebap { (1 ≤ hebap) × (hebap ≤ 7) }
     requires x_len { length x.now ≡ 6 }
-    requires fractions_loaded { FractionsLoaded loaded.now }
     requires room { Room (bin_enc (book hebap) x.now) p out.old }
     ensures { Puts (bin_enc (book hebap) x.now) p result out.old out.new }
 {
-    let i = books::search_in(loaded, hebap, x);
+    let i = books::search(hebap, x);
     put(out, p, i as u32, tables::vq_bits(hebap) as u32)
 }
 
 // What stands in the field for a bin, where there is room for it; the position behind it.
-fn write_bin(
-    out: &mut [u8],
-    p: BitPos,
-    mode: u8,
-    hebap: u8,
-    gk: u8,
-    x: &[f32],
-    loaded: &[u32],
-) -> BitPos
+fn write_bin(out: &mut [u8], p: BitPos, mode: u8, hebap: u8, gk: u8, x: &[f32]) -> BitPos
     requires hebap_bound { hebap ≤ 19 }
     requires bit_bound { p.bit < 8 }
     requires x_len { length x.now ≡ 6 }
-    requires fractions_loaded { FractionsLoaded loaded.now }
     requires room { Room (bin_enc (bin_of mode hebap gk) x.now) p out.old }
     ensures { Puts (bin_enc (bin_of mode hebap gk) x.now) p result out.old out.new }
 {
     match gains::coding_of(mode, hebap) {
         Coding::Nothing => p,
-        Coding::Book => write_index(out, p, hebap, x, loaded),
+        Coding::Book => write_index(out, p, hebap, x),
         Coding::Fixed => write_six(out, p, hebap, 1, x),
         Coding::Adaptive => write_six(out, p, hebap, gk, x),
     }
@@ -178,11 +167,9 @@ fn write_bins(
     end: usize,
     x: &[f32],
     gains: &[u8],
-    loaded: &[u32],
 ) -> BitPos
     requires row_ok { RowOk row.now start end }
     requires end_in_bounds { 6 * end ≤ length x.now }
-    requires fractions_loaded { FractionsLoaded loaded.now }
     requires bit_bound { p.bit < 8 }
     requires room { Room (bins_enc mode gains.now row.now x.now start end start) p out.old }
     ensures { Puts (bins_enc mode gains.now row.now x.now start end start) p result out.old out.new }
@@ -201,7 +188,6 @@ fn write_bins(
             hebap,
             channel::gain_at(gains, n),
             &x[a..b],
-            loaded,
         );
         n += channel::gains_used(mode, hebap);
         bin += 1;
@@ -219,40 +205,16 @@ fn write_field(
     start: usize,
     end: usize,
     x: &[f32],
-    loaded: &[u32],
 ) -> BitPos
     requires within { Within row.now start end x.now }
     requires choice { Choice mode gains.now row.now start end }
-    requires fractions_loaded { FractionsLoaded loaded.now }
     requires room { Room ((field row.now start end).enc (written_of mode gains.now row.now x.now start end)) p out.old }
     ensures { Puts ((field row.now start end).enc (written_of mode gains.now row.now x.now start end))
         p result out.old out.new }
 {
     let q = put(&mut *out, p, mode as u32, 2);
     let r = write_gains(&mut *out, q, mode, gains);
-    write_bins(out, r, mode, row, start, end, x, gains, loaded)
-}
-
-// The same; loads the books.
-fn write_choice(
-    out: &mut [u8],
-    p: BitPos,
-    mode: u8,
-    gains: &[u8],
-    row: &[u8],
-    start: usize,
-    end: usize,
-    x: &[f32],
-) -> BitPos
-    requires within { Within row.now start end x.now }
-    requires choice { Choice mode gains.now row.now start end }
-    requires room { Room ((field row.now start end).enc (written_of mode gains.now row.now x.now start end)) p out.old }
-    ensures { Puts ((field row.now start end).enc (written_of mode gains.now row.now x.now start end))
-        p result out.old out.new }
-{
-    let mut room = [0u32; 5736];
-    books::load_fractions(&mut room);
-    write_field(out, p, mode, gains, row, start, end, x, &room)
+    write_bins(out, r, mode, row, start, end, x, gains)
 }
 
 // The field of the plan goes to the output from the position on. Refuses with 1 to 5, then 6, then 7; a refusal
@@ -274,5 +236,5 @@ pub fn write_aht_channel(
         return Err(Refusal::OutputFull);
     }
     let gains = &plan.gains[..plan.count];
-    Ok(write_choice(out, pos, plan.mode, gains, hebap, start, end, x))
+    Ok(write_field(out, pos, plan.mode, gains, hebap, start, end, x))
 }

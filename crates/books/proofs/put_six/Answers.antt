@@ -17,7 +17,7 @@ use Rattle.books.proofs.put_six.Goals as goal
 
 pub loop-j-init : goal.loop-j-init
 loop-j-init c = let a = c.args in
-    (omega arith, refl, refl, sym (splice_none a.values.now a.at), sym (splice_none a.exact.now a.at))
+    (refl, refl, sym (splice_none a.values.now a.at), sym (splice_none a.exact.now a.at))
 
 pub loop-j-preserved : goal.loop-j-preserved
 loop-j-preserved c = let l = c.loop-j in
@@ -29,11 +29,10 @@ loop-j-preserved c = let l = c.loop-j in
     let h = c.requires in
     let y : c.q15.result ≡ q15 g = c.q15.ensures ∙ ap q15 i in
     let x = back w32 c.exact_entry.result c.exact_entry.type_inv (c.exact_entry.ensures ∙ ap exact_entry i) in (
-      omega arith,
+      rw length-set l.invariant.0,
       rw length-set l.invariant.1,
-      rw length-set l.invariant.2,
-      rw y (put_next b a.a h.a_in_bounds.0 q15 a.values.now l.values a.at l.j g (omega arith) h.at_in_bounds.0 refl l.invariant.3),
-      rw x (put_next b a.a h.a_in_bounds.0 exact_entry a.exact.now l.exact a.at l.j g (omega arith) h.at_in_bounds.1 refl l.invariant.4),
+      rw y (put_next b a.a h.a_in_bounds.0 q15 a.values.now l.values a.at l.j g (omega arith) h.at_in_bounds.0 refl l.invariant.2),
+      rw x (put_next b a.a h.a_in_bounds.0 exact_entry a.exact.now l.exact a.at l.j g (omega arith) h.at_in_bounds.1 refl l.invariant.3),
     )
 
 pub returns : goal.returns
@@ -42,4 +41,4 @@ returns c = let l = c.loop-j in
     let a = c.args in
     let h = c.requires in
     let six : l.j ≡ 6 = omega arith in
-    record { values_after = l.invariant.3 ∙ rw (six, six_is a.book.now a.a h.a_in_bounds.0 q15); exact_after = l.invariant.4 ∙ rw (six, six_is a.book.now a.a h.a_in_bounds.0 exact_entry) }
+    record { values_after = l.invariant.2 ∙ rw (six, six_is a.book.now a.a h.a_in_bounds.0 q15); exact_after = l.invariant.3 ∙ rw (six, six_is a.book.now a.a h.a_in_bounds.0 exact_entry) }

@@ -2,22 +2,20 @@
 use native.Mathlib.Omega.{arith}
 use Rattle.books.proofs.Vectors.{Stands, stands}
 use Rattle.books.proofs.put_vector.Goals as goal
-use Rattle.books.proofs.put_vector.Goals.{After-place}
+use Rattle.books.proofs.put_vector.Goals.{After-vq_book}
 
--- the vector stands whole in the books
-there : (c : After-place) → Stands c.args.books.now c.args.hebap c.args.index
-there c =
-    let p = c.requires in
-    stands c.args.books.now c.args.hebap c.args.index p.le_hebap.0 p.le_hebap.1 p.le_hebap.2 p.vectors_loaded
+-- the vector stands whole in the book
+there : (c : After-vq_book) → Stands c.args.hebap c.args.index
+there c = let p = c.requires.le_hebap in stands c.args.hebap c.args.index p.0 p.1 p.2
 
 pub overflow_mul-index : goal.overflow_mul-index
-overflow_mul-index c = let s = there c in omega arith
-
-pub overflow_add-place : goal.overflow_add-place
-overflow_add-place c = let s = there (goal.at.overflow_add-place c).After-place in omega arith
+overflow_mul-index c = let s = (there c).inside in omega arith
 
 pub put_six-requires-clause-a_in_bounds : goal.put_six-requires-clause-a_in_bounds
-put_six-requires-clause-a_in_bounds c = let s = there (goal.at.put_six-requires-clause-a_in_bounds c).After-place in (omega arith, omega arith)
+put_six-requires-clause-a_in_bounds c = rw c.vq_book.ensures (there (goal.at.put_six-requires-clause-a_in_bounds c).After-vq_book).inside
 
-pub returns : goal.returns
-returns c = let s = there (goal.at.returns c).After-place in rw (← s.fractions, ← s.exacts, ← c.place.ensures) c.put_six.ensures
+pub returns-clause-values_after : goal.returns-clause-values_after
+returns-clause-values_after c = rw (← (there (goal.at.returns-clause-values_after c).After-vq_book).fractions, ← c.vq_book.ensures) c.put_six.ensures.values_after
+
+pub returns-clause-exact_after : goal.returns-clause-exact_after
+returns-clause-exact_after c = rw (← (there (goal.at.returns-clause-exact_after c).After-vq_book).exacts, ← c.vq_book.ensures) c.put_six.ensures.exact_after

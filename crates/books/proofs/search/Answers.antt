@@ -1,50 +1,74 @@
 -- `books::search` meets its contract. Assumes nothing.
-use mathlib.Core.Path.{◌≡◌}
+use Prim.Native.Nat.{ℕ, ◌+◌, ◌<◌}
+use mathlib.Core.Path.{◌∙◌, sym, ap, refl}
+use mathlib.Core.Bool.{false}
+use native.Mathlib.Nat.{sub-zero}
 use native.Mathlib.Omega.{arith}
+use lib.Ieee.{inf, of_bits}
+use Rattle.tables.specs.Tables.{book}
+use Rattle.tables.proofs.Rules.{book_fits}
+use Rattle.books.specs.Books.{search_from}
+use Rattle.books.specs.Fractions.{floats}
+use Rattle.books.specs.Work.{distance_in}
+use Rattle.books.proofs.Laws.{HasBook, book_of}
+use Rattle.books.proofs.Columns.{book_length, no_nans, searched}
+use Rattle.books.proofs.Steps.{on_from, by_end, four_on_lem, by_four, by_four_farther}
 use Rattle.books.proofs.search.Goals as goal
-use Rattle.books.proofs.search.Goals.{In_default}
+use Rattle.books.proofs.search.Goals.{After-vectors_in-n, then-any_less, else-any_less}
 
-is_seven : (c : In_default) → c.args.hebap ≡ 7
-is_seven c = omega arith
+-- the book of the hebap, as n counts it
+there : (c : After-vectors_in-n) → HasBook c.args.hebap c.vectors_in-n.result
+there c = book_of c.args.hebap c.vectors_in-n.result c.requires.le_hebap.0 c.requires.le_hebap.1 c.vectors_in-n.ensures
 
-pub search_book-requires : goal.search_book-requires
-search_book-requires c = let e = c.in-1.is in (c.requires.le_hebap.0, c.requires.le_hebap.1, rw e c.vq_hebap1-t.ensures, c.requires.x_len)
+pub loop-k-init : goal.loop-k-init
+unfolding of_bits
+loop-k-init c =
+    let a = c.args in
+    let n = c.vectors_in-n.result in
+    let t = c.fractions-t.result.now in
+    let h = c.requires.le_hebap in
+    let k = there (goal.at.loop-k-init c).After-vectors_in-n in
+    let few = k.few in
+    let w = book_length a.hebap t c.fractions-t.ensures in (
+      omega arith,
+      refl,
+      omega arith,
+      omega arith,
+      k.fours,
+      no_nans t n (book a.hebap) (λ i. book_fits a.hebap i h.0 h.1) k.some (omega arith) (rw c.vectors_in-n.ensures c.fractions-t.ensures),
+      ap (λ (m : ℕ). search_from (distance_in a.x.now (floats t) n) m 0 0 (inf false)) (sub-zero n),
+    )
 
-pub search_book-requires-in-2 : goal.search_book-requires-in-2
-search_book-requires-in-2 c = let e = c.in-2.is in (c.requires.le_hebap.0, c.requires.le_hebap.1, rw e c.vq_hebap2-t.ensures, c.requires.x_len)
+pub loop-k-preserved : goal.loop-k-preserved
+unfolding distance_in
+loop-k-preserved c =
+    let n = c.vectors_in-n.result in
+    let f = distance_in c.args.x.now (floats c.fractions-t.result.now) n in
+    let k = c.loop-k.k in
+    let s = c.loop-k.s in
+    let h : k + 3 < n = omega arith in
+    let da = c.distance-a in
+    let db = c.distance-b in
+    let dc = c.distance-c in
+    let dd = c.distance-d in
+    let on = by_four f n k s da.result db.result dc.result dd.result h da.ensures db.ensures dc.ensures dd.ensures in
+    let off = by_four_farther f n k s da.result db.result dc.result dd.result h da.ensures db.ensures dc.ensures dd.ensures in (
+      omega arith,
+      omega arith,
+      c.loop-k.invariant.2,
+      c.loop-k.invariant.3,
+      c.loop-k.invariant.4,
+      c.loop-k.invariant.5,
+      elim c.if-any_less.branch [
+        | then-any_less w ↦ ap (on_from f n (k + 4)) (w.s-is ∙ four_on_lem s da.result db.result dc.result dd.result k _ _ _ _ w.nearer.ensures w.nearer-then-any_less.ensures w.nearer-then-any_less-2.ensures w.nearer-s.ensures) ∙ sym on ∙ c.loop-k.invariant.6
+        | else-any_less w ↦ ap (on_from f n (k + 4)) w.s-is ∙ sym (off (sym c.any_less.ensures ∙ w.if-any_less.false)) ∙ c.loop-k.invariant.6
+      ],
+    )
 
-pub search_book-requires-in-3 : goal.search_book-requires-in-3
-search_book-requires-in-3 c = let e = c.in-3.is in (c.requires.le_hebap.0, c.requires.le_hebap.1, rw e c.vq_hebap3-t.ensures, c.requires.x_len)
-
-pub search_book-requires-in-4 : goal.search_book-requires-in-4
-search_book-requires-in-4 c = let e = c.in-4.is in (c.requires.le_hebap.0, c.requires.le_hebap.1, rw e c.vq_hebap4-t.ensures, c.requires.x_len)
-
-pub search_book-requires-in-5 : goal.search_book-requires-in-5
-search_book-requires-in-5 c = let e = c.in-5.is in (c.requires.le_hebap.0, c.requires.le_hebap.1, rw e c.vq_hebap5-t.ensures, c.requires.x_len)
-
-pub search_book-requires-in-6 : goal.search_book-requires-in-6
-search_book-requires-in-6 c = let e = c.in-6.is in (c.requires.le_hebap.0, c.requires.le_hebap.1, rw e c.vq_hebap6-t.ensures, c.requires.x_len)
-
-pub search_book-requires-in_default : goal.search_book-requires-in_default
-search_book-requires-in_default c = let e = is_seven (goal.at.search_book-requires-in_default c).In_default in (c.requires.le_hebap.0, c.requires.le_hebap.1, rw e c.vq_hebap7-t.ensures, c.requires.x_len)
-
-pub returns-in-1 : goal.returns-in-1
-returns-in-1 c = c.search_book.ensures
-
-pub returns-in-2 : goal.returns-in-2
-returns-in-2 c = c.search_book-in-2.ensures
-
-pub returns-in-3 : goal.returns-in-3
-returns-in-3 c = c.search_book-in-3.ensures
-
-pub returns-in-4 : goal.returns-in-4
-returns-in-4 c = c.search_book-in-4.ensures
-
-pub returns-in-5 : goal.returns-in-5
-returns-in-5 c = c.search_book-in-5.ensures
-
-pub returns-in-6 : goal.returns-in-6
-returns-in-6 c = c.search_book-in-6.ensures
-
-pub returns-in_default : goal.returns-in_default
-returns-in_default c = c.search_book-in_default.ensures
+pub returns : goal.returns
+returns c =
+    let n = c.vectors_in-n.result in
+    let a = c.args in
+    let t = c.fractions-t.result.now in
+    let e = sym (by_end (distance_in a.x.now (floats t) n) n c.loop-k.k c.loop-k.s c.loop-k-test.false) ∙ c.loop-k.invariant.6 in
+    searched a.hebap n t a.x.now _ c.vectors_in-n.ensures (there (goal.at.returns c).After-vectors_in-n) c.fractions-t.ensures e

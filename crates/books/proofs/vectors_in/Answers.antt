@@ -1,12 +1,12 @@
 -- `books::vectors_in` meets its contract: each arm computes its number. Assumes nothing.
 use Rattle.tables.specs.Numbers.{vq_bits_table}
 use Rattle.tables.specs.Tables.{vq_bits}
-use Rattle.books.proofs.Laws.{outside, without_book}
+use Rattle.books.proofs.Laws.{without_book}
 use native.Mathlib.Omega.{arith}
 use Rattle.books.proofs.vectors_in.Goals as goal
 
 pub returns-in_default : goal.returns-in_default
-returns-in_default c = let h = c.args.hebap in rw (without_book h (outside h (omega arith) (omega arith) (omega arith) (omega arith) (omega arith) (omega arith) (omega arith)))
+returns-in_default c = rw (without_book c.args.hebap (omega arith))
 
 pub returns-in-1 : goal.returns-in-1
 unfolding vq_bits vq_bits_table

@@ -24,22 +24,22 @@ small_in_width : (c : In-Small) → c.in-Small.u < 2 ^ small_bits (mant_bits c.a
 small_in_width c = small_fits c.args.s.hebap c.args.s.gk _ _ c.requires.accepted c.in-Small.is
 
 small_number : (c : After-signed_code) → to_z w32 (of_z w32 c.signed_code.result) ≡ signed (small_bits (mant_bits c.args.s.hebap) c.args.s.gk) c.in-Small.u
-small_number c = back w32 c.signed_code.result c.signed_code.type_inv (c.signed_code.ensures ∙ rw (small_is c.args.s c.requires.scale))
+small_number c = back w32 c.signed_code.result c.signed_code.type_inv (c.signed_code.ensures ∙ rw (small_is c.args.s))
 
 pub signed_code-requires : goal.signed_code-requires
-signed_code-requires c = small_asked c.args.s c.requires.scale c.in-Small.u (small_in_width c)
+signed_code-requires c = small_asked c.args.s c.in-Small.u (small_in_width c)
 
 pub times-requires : goal.times-requires
 times-requires c =
     let at = goal.at.times-requires c in
-    rw (small_number at.After-signed_code, small_unit_back c.args.s c.requires.scale)
-    (small_size c.args.s.hebap c.args.s.gk c.requires.scale.low c.requires.scale.high c.in-Small.u (small_in_width at.In-Small))
+    rw (small_number at.After-signed_code, small_unit_back c.args.s)
+    (small_size c.args.s.hebap c.args.s.gk c.args.s.known.0 c.args.s.known.1 c.in-Small.u (small_in_width at.In-Small))
 
 pub returns-in-Small : goal.returns-in-Small
 unfolding exact_of
 returns-in-Small c =
     back w32 c.times.result c.times.type_inv
-    (c.times.ensures ∙ rw (c.in-Small.is, small_number (goal.at.returns-in-Small c).After-signed_code, small_unit_back c.args.s c.requires.scale))
+    (c.times.ensures ∙ rw (c.in-Small.is, small_number (goal.at.returns-in-Small c).After-signed_code, small_unit_back c.args.s))
 
 -- a large code's number, the unit's two factors, and b
 abbrev l : CodeScale → ℕ → ℤ
@@ -59,34 +59,34 @@ large_fits c = rw c.in-Large.is at c.requires.accepted
 
 -- the product and the sum stay in range
 steps : (c : In-Large) → Steps (l c.args.s c.in-Large.u) (z c.args.s) (p c.args.s) (b c.args.s c.in-Large.u)
-steps c = large_steps c.args.s.hebap c.args.s.gk c.requires.scale.low c.requires.scale.high c.in-Large.u (large_fits c)
+steps c = large_steps c.args.s.hebap c.args.s.gk c.args.s.known.0 c.args.s.known.1 c.in-Large.u (large_fits c)
 
 -- the number, b and the product are read back as they were passed on
 large_number : (c : Joined-k-lt0) → to_z w32 (of_z w32 c.signed_code-k.result) ≡ l c.args.s c.in-Large.u
-large_number c = back w32 c.signed_code-k.result c.signed_code-k.type_inv (c.signed_code-k.ensures ∙ rw (large_is c.args.s c.requires.scale))
+large_number c = back w32 c.signed_code-k.result c.signed_code-k.type_inv (c.signed_code-k.ensures ∙ rw (large_is c.args.s))
 
 b_is : (c : Joined-k-lt0) → to_z w32 c.if-k-lt0.b-bits ≡ b c.args.s c.in-Large.u *ℤ pos (2 ^ 15)
 b_is c =
     let k = to_z w32 (of_z w32 c.signed_code-k.result) in
     chosen (λ t. offset_by_sign c.args.s.hebap c.args.s.gk t *ℤ pos (2 ^ 15)) (lt_z k (pos 0)) (to_z w32 c.if-k-lt0.b-bits)
     (elim c.if-k-lt0.branch [
-      | then-k-lt0 i ↦ inl (i.if-k-lt0.true, ap (to_z w32) i.b-is-bits ∙ below_back c.args.s c.requires.scale)
-      | else-k-lt0 i ↦ inr (i.if-k-lt0.false, ap (to_z w32) i.b-is-bits ∙ up_back c.args.s c.requires.scale)
+      | then-k-lt0 i ↦ inl (i.if-k-lt0.true, ap (to_z w32) i.b-is-bits ∙ below_back c.args.s)
+      | else-k-lt0 i ↦ inr (i.if-k-lt0.false, ap (to_z w32) i.b-is-bits ∙ up_back c.args.s)
     ])
     ∙ rw (below_zero k, large_number c)
 
 product : (c : After-times-in-Large) → to_z w32 (of_z w32 c.times-in-Large.result) ≡ l c.args.s c.in-Large.u *ℤ (z c.args.s *ℤ pos (p c.args.s))
 product c =
     back w32 c.times-in-Large.result c.times-in-Large.type_inv
-    (c.times-in-Large.ensures ∙ rw (large_number (goal.at.overflow_add-result c).Joined-k-lt0, large_unit_back c.args.s c.requires.scale))
+    (c.times-in-Large.ensures ∙ rw (large_number (goal.at.overflow_add-result c).Joined-k-lt0, large_unit_back c.args.s))
 
 pub signed_code-k-requires : goal.signed_code-k-requires
-signed_code-k-requires c = large_asked c.args.s c.requires.scale c.in-Large.u (large_fits c)
+signed_code-k-requires c = large_asked c.args.s c.in-Large.u (large_fits c)
 
 pub times-requires-in-Large : goal.times-requires-in-Large
 times-requires-in-Large c =
     let at = goal.at.times-requires-in-Large c in
-    rw (large_number at.Joined-k-lt0, large_unit_back c.args.s c.requires.scale) (steps at.In-Large).product
+    rw (large_number at.Joined-k-lt0, large_unit_back c.args.s) (steps at.In-Large).product
 
 pub overflow_add-result : goal.overflow_add-result
 overflow_add-result c =

@@ -10,15 +10,13 @@ use Rattle.levels.proofs.Common.{large_is, large_asked, large_unit_back, fixed_e
 use Rattle.levels.proofs.fixed_exact.Goals as goal
 
 pub signed_code-requires : goal.signed_code-requires
-signed_code-requires c = large_asked c.args.s c.requires.scale c.args.u c.requires.accepted
+signed_code-requires c = large_asked c.args.s c.args.u c.requires.accepted
 
 pub times-requires : goal.times-requires
-times-requires c = let l_is : (let a = c.args in to_z w32 (of_z w32 c.signed_code.result) ≡ signed (large_bits (mant_bits a.s.hebap) a.s.gk) a.u) = (let k = c.signed_code in back w32 k.result k.type_inv (k.ensures ∙ rw (large_is c.args.s c.requires.scale))) in
-    let i = c.requires.scale in
-    rw (l_is, large_unit_back c.args.s i) (large_steps c.args.s.hebap c.args.s.gk i.low i.high c.args.u c.requires.accepted).product
+times-requires c = let l_is : (let a = c.args in to_z w32 (of_z w32 c.signed_code.result) ≡ signed (large_bits (mant_bits a.s.hebap) a.s.gk) a.u) = (let k = c.signed_code in back w32 k.result k.type_inv (k.ensures ∙ rw (large_is c.args.s))) in
+    rw (l_is, large_unit_back c.args.s) (large_steps c.args.s.hebap c.args.s.gk c.args.s.known.0 c.args.s.known.1 c.args.u c.requires.accepted).product
 
 pub returns : goal.returns
-returns c = let l_is : (let a = c.args in to_z w32 (of_z w32 c.signed_code.result) ≡ signed (large_bits (mant_bits a.s.hebap) a.s.gk) a.u) = (let k = c.signed_code in back w32 k.result k.type_inv (k.ensures ∙ rw (large_is c.args.s c.requires.scale))) in
-    let i = c.requires.scale in
+returns c = let l_is : (let a = c.args in to_z w32 (of_z w32 c.signed_code.result) ≡ signed (large_bits (mant_bits a.s.hebap) a.s.gk) a.u) = (let k = c.signed_code in back w32 k.result k.type_inv (k.ensures ∙ rw (large_is c.args.s))) in
     back w32 c.times.result c.times.type_inv
-    (c.times.ensures ∙ rw (l_is, large_unit_back c.args.s i) (fixed_exact_by c.args.s i c.requires.gk_value c.args.u))
+    (c.times.ensures ∙ rw (l_is, large_unit_back c.args.s) (fixed_exact_by c.args.s c.requires.gk_value c.args.u))

@@ -7,7 +7,7 @@ use Rattle.levels.proofs.fixed_value.Goals as goal
 use Rattle.levels.proofs.fixed_value.Goals.{Start}
 
 pub signed_code-requires : goal.signed_code-requires
-signed_code-requires c = large_asked c.args.s c.requires.scale c.args.u c.requires.accepted
+signed_code-requires c = large_asked c.args.s c.args.u c.requires.accepted
 
 pub int_to_float-x : goal.int_to_float-x
 int_to_float-x c = let k = c.signed_code in
@@ -15,4 +15,4 @@ int_to_float-x c = let k = c.signed_code in
 
 pub returns : goal.returns
 returns c = let k = c.signed_code in
-    fixed_value_by c.args.s c.requires.scale c.requires.gk_value c.args.u (to_z w32 (of_z w32 k.result)) (back w32 k.result k.type_inv k.ensures)
+    fixed_value_by c.args.s c.requires.gk_value c.args.u (to_z w32 (of_z w32 k.result)) (back w32 k.result k.type_inv k.ensures)

@@ -9,7 +9,7 @@ use Rattle.reader.proofs.read_known.Goals as goal
 pub read_field-r-requires : goal.read_field-r-requires
 read_field-r-requires c = let h = c.requires in
     let few = h.row_ok.few in
-    record { row_ok = h.row_ok; inside = h.inside; gains_len = h.gains_len; vectors_loaded = h.vectors_loaded; scales_loaded = h.scales_loaded; long = (omega arith, omega arith, omega arith) }
+    record { row_ok = h.row_ok; inside = h.inside; gains_len = h.gains_len; long = (omega arith, omega arith, omega arith) }
 
 pub hand_out-requires : goal.hand_out-requires
 hand_out-requires c = let h = c.requires in

@@ -34,7 +34,6 @@ next_in c = rw c.in_ok-code.was at c.read_code.ensures.code_next
 
 pub put_values-requires : goal.put_values-requires
 put_values-requires c = record {
-  scale = c.requires.scale;
   accepted = code_accepted c.args.s.hebap c.args.s.gk _ _ _ (code_is (goal.at.put_values-requires c).In_ok-code);
   at_in_bounds = (omega arith, omega arith);
 }

@@ -15,7 +15,6 @@ use Rattle.tables.specs.Tables.{mant_bits}
 use Rattle.levels.specs.declared.Code.{Code}
 use Rattle.levels.specs.declared.CodeScale.{CodeScale}
 use Rattle.levels.specs.Codes.{coded}
-use Rattle.levels.specs.Work.{IsScale}
 use Rattle.levels.proofs.Common.{m_range, large_is}
 use Rattle.scalars.proofs.Six.{none_yet, all_read, code_accepted}
 use Rattle.scalars.proofs.Ahead.{number_at, fixed_read, turn}
@@ -23,26 +22,26 @@ use Rattle.scalars.proofs.read_fixed.Goals as goal
 use Rattle.scalars.proofs.read_fixed.Goals.{After-peek_word-u}
 
 -- Gk 1: each code has the mantissa's bits, 3 to 16
-module _ (s : CodeScale) (i : IsScale s) (one : s.gk ≡ 1) where
+module _ (s : CodeScale) (one : s.gk ≡ 1) where
   width : s.large ≡ mant_bits s.hebap
-  width = large_is s i ∙ rw one
+  width = large_is s ∙ rw one
 
   few : (3 ≤ s.large) × (s.large ≤ 16)
-  few = rw width (m_range s i)
+  few = rw width (m_range s)
 
   here : (src : List ℕ) (k : ℕ) → k + s.large ≤ 8 * length src
       → (coded (mant_bits s.hebap) s.gk).dec (drop k (bits_of src)) ≡ got (Code.Large (number_at src k s.large)) (drop (k + s.large) (bits_of src))
-  here src k room = let m = m_range s i in rw width (fixed_read s.hebap s.gk src k (eq-eqb _ _ one) (omega arith) (rw width at room))
+  here src k room = let m = m_range s in rw width (fixed_read s.hebap s.gk src k (eq-eqb _ _ one) (omega arith) (rw width at room))
 
 -- the next code is inside the bytes, and it is the one that was read
 room : (c : After-peek_word-u) → bit_at c.args.pos + c.loop-j.d + c.args.s.large ≤ 8 * length c.args.src.now
-room c = let m = few c.args.s c.requires.scale c.requires.gk_value in omega (arith, c.loop-j.invariant.1)
+room c = let m = few c.args.s c.requires.gk_value in omega (arith, c.loop-j.invariant.1)
 
 read_here : (c : After-peek_word-u) → let k = bit_at c.args.pos + c.loop-j.d in
     (coded (mant_bits c.args.s.hebap) c.args.s.gk).dec (drop k (bits_of c.args.src.now)) ≡ got (Code.Large c.peek_word-u.result) (drop (k + c.args.s.large) (bits_of c.args.src.now))
 read_here c =
     let k = bit_at c.args.pos + c.loop-j.d in
-    rw (c.peek_word-u.ensures, c.advance_bits-p.ensures, at_pos k) (here c.args.s c.requires.scale c.requires.gk_value c.args.src.now k (room c))
+    rw (c.peek_word-u.ensures, c.advance_bits-p.ensures, at_pos k) (here c.args.s c.requires.gk_value c.args.src.now k (room c))
 
 pub loop-j-init : goal.loop-j-init
 loop-j-init c =
@@ -53,7 +52,7 @@ loop-j-init c =
 
 pub peek_word-u-requires : goal.peek_word-u-requires
 peek_word-u-requires c =
-    let m = few c.args.s c.requires.scale c.requires.gk_value in
+    let m = few c.args.s c.requires.gk_value in
     rw c.advance_bits-p.ensures (omega arith, omega arith, omega arith, omega (arith, c.loop-j.invariant.1))
 
 pub fixed_value-requires-clause-accepted : goal.fixed_value-requires-clause-accepted
@@ -64,14 +63,14 @@ fixed_exact-requires-clause-accepted c = fixed_value-requires-clause-accepted (g
 
 pub overflow_add-d : goal.overflow_add-d
 overflow_add-d c =
-    let m = few c.args.s c.requires.scale c.requires.gk_value in
+    let m = few c.args.s c.requires.gk_value in
     let i = c.loop-j.invariant.1 in
     search rules
 
 pub loop-j-preserved : goal.loop-j-preserved
 loop-j-preserved c =
     let w = c.requires.at_in_bounds in
-    let m = few c.args.s c.requires.scale c.requires.gk_value in
+    let m = few c.args.s c.requires.gk_value in
     let d = (goal.at.loop-j-preserved c).After-peek_word-u in
     let z = to_z-of_z w32 c.fixed_exact.result (record { sfits = c.fixed_exact.type_inv }) ∙ c.fixed_exact.ensures in (
       turn c.loop-j.d c.args.s.large c.loop-j.invariant.0 w.0 w.1 (omega arith) (Code.Large c.peek_word-u.result) (read_here d) (room d) _ _ c.fixed_value.ensures z,

@@ -26,7 +26,7 @@ advance_bits-p-requires c = let w = c.requires.bit_bound in let i = c.loop-j.inv
 
 pub code_ahead-c-requires : goal.code_ahead-c-requires
 code_ahead-c-requires c = let w = c.requires.bit_bound in
-    record { scale = c.requires.scale; fact = c.requires.fact; bit_bound = rw c.advance_bits-p.ensures (omega arith, omega (arith, c.loop-j.invariant.1)) }
+    record { fact = c.requires.fact; bit_bound = rw c.advance_bits-p.ensures (omega arith, omega (arith, c.loop-j.invariant.1)) }
 
 -- the code that stands behind the bits read so far, and its bits are there
 code_is : (c : After-code_ahead-c) → let a = c.args in let k = bit_at a.pos + c.loop-j.d in
@@ -46,7 +46,7 @@ overflow_add-at c = let w = c.requires.at_in_bounds in search rules
 
 pub put_values-requires : goal.put_values-requires
 put_values-requires c = let w = c.requires.at_in_bounds in
-    record { scale = c.requires.scale; accepted = code_accepted c.args.s.hebap c.args.s.gk _ _ _ (code_is (goal.at.put_values-requires c).After-code_ahead-c); at_in_bounds = (omega arith, omega arith) }
+    record { accepted = code_accepted c.args.s.hebap c.args.s.gk _ _ _ (code_is (goal.at.put_values-requires c).After-code_ahead-c); at_in_bounds = (omega arith, omega arith) }
 
 pub overflow_add-d : goal.overflow_add-d
 overflow_add-d c = let i = c.loop-j.invariant.1 in

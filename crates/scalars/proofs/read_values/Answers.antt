@@ -6,18 +6,14 @@ use Rattle.answers.proofs.Numbers.{passed_on}
 use Rattle.bits.specs.Bits.{bits_of, bit_at}
 use Rattle.tables.specs.Tables.{mant_bits}
 use Rattle.levels.specs.Codes.{six}
-use Rattle.levels.proofs.Common.{scale_is, scale_names}
 use Rattle.scalars.proofs.Six.{values_none, values_all}
 use Rattle.scalars.proofs.read_values.Goals as goal
-
-pub read_each-requires-clause-scale : goal.read_each-requires-clause-scale
-read_each-requires-clause-scale c = scale_is c.args.hebap c.args.gk c.requires.le_hebap.0 c.requires.le_hebap.1 _ c.scale_of-s.ensures
 
 pub returns-in_err-next : goal.returns-in_err-next
 returns-in_err-next c =
     let a = c.args in
     let bs = drop (bit_at a.pos) (bits_of a.src.now) in
-    let n = scale_names a.hebap a.gk _ c.scale_of-s.ensures in
+    let n = c.scale_at-s.ensures in
     let e = rw (n.0, n.1) at c.read_each.ensures.value in
     let both = values_none a.hebap a.gk (8 * length a.src.now) bs a.out.now _ ((six (mant_bits a.hebap) a.gk).dec bs) (sym c.in_err-next.was ∙ e) in
     rw (passed_on c.from_residual.ensures) record { value = both.0; out_after = both.1 }
@@ -26,7 +22,7 @@ pub returns : goal.returns
 returns c =
     let a = c.args in
     let bs = drop (bit_at a.pos) (bits_of a.src.now) in
-    let n = scale_names a.hebap a.gk _ c.scale_of-s.ensures in
+    let n = c.scale_at-s.ensures in
     let d = rw (n.0, n.1) at c.read_each.ensures in
     let e = values_all a.hebap a.gk (8 * length a.src.now) bs a.out.now _ _ _ ((six (mant_bits a.hebap) a.gk).dec bs) refl (sym c.in_ok-next.was ∙ d.value) d.values_after refl in
     record { value = e.0; out_after = c.copy_from_slice.ensures.after ∙ e.1 }

@@ -59,9 +59,9 @@ slice_bounds-gains-end c = sym (length-take-le c.args.plan.count c.args.plan.gai
 pub shared_ref_as_front-gains : goal.shared_ref_as_front-gains
 shared_ref_as_front-gains c = let r = (fit (goal.at.shared_ref_as_front-gains c).In_ok-check_plan).room in search rules
 
-pub write_choice-requires : goal.write_choice-requires
-write_choice-requires c =
-    let d = goal.at.write_choice-requires c in
+pub write_field-requires : goal.write_field-requires
+write_field-requires c =
+    let d = goal.at.write_field-requires c in
     let f = fit d.In_ok-check_plan in
     record { within = f.within; choice = f.choice; room = omega (arith, long d.In_ok-check_plan, room d.Else-not-has_bits) }
 
@@ -69,5 +69,5 @@ pub returns : goal.returns
 returns c =
     let a = c.args in
     let d = goal.at.returns c in
-    let both = call_good a.plan a.hebap.now a.start a.end a.x.now a.out.now (bit_at a.pos) (none d.In_ok-check_plan) (room d.Else-not-has_bits) a.pos _ _ refl (long d.In_ok-check_plan) c.write_choice.ensures in
+    let both = call_good a.plan a.hebap.now a.start a.end a.x.now a.out.now (bit_at a.pos) (none d.In_ok-check_plan) (room d.Else-not-has_bits) a.pos _ _ refl (long d.In_ok-check_plan) c.write_field.ensures in
     record { value = both.0; out_after = both.1 }

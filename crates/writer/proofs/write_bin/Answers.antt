@@ -8,7 +8,7 @@ use Rattle.writer.proofs.write_bin.Goals as goal
 
 pub write_index-requires : goal.write_index-requires
 write_index-requires c = let b = coded_bin c.args.mode c.args.hebap c.args.gk Coding.Book c.requires.hebap_bound (sym c.coding_of.ensures ∙ c.in-Book.is) in
-    record { le_hebap = b.0; x_len = c.requires.x_len; fractions_loaded = c.requires.fractions_loaded; room = rw b.1 at c.requires.room }
+    record { le_hebap = b.0; x_len = c.requires.x_len; room = rw b.1 at c.requires.room }
 
 pub write_six-requires : goal.write_six-requires
 write_six-requires c = let a = c.args in

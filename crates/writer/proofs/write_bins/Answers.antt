@@ -56,7 +56,7 @@ pub write_bin-q-requires : goal.write_bin-q-requires
 write_bin-q-requires c = let a = c.args in
     let k = c.loop-bin.bin in
     let v = c.requires.end_in_bounds in
-    rw (part_six a.x.now k) record { hebap_bound = known_hebap a.row.now a.start a.end k c.requires.row_ok.known c.loop-bin.invariant.0 (omega arith); bit_bound = puts_bit c.loop-bin.invariant.3.wrote; x_len = six_long a.x.now k (omega arith); fractions_loaded = c.requires.fractions_loaded; room = left_room c.loop-bin.invariant.3 (turn (goal.at.write_bin-q-requires c).After-gain_at) c.requires.room }
+    rw (part_six a.x.now k) record { hebap_bound = known_hebap a.row.now a.start a.end k c.requires.row_ok.known c.loop-bin.invariant.0 (omega arith); bit_bound = puts_bit c.loop-bin.invariant.3.wrote; x_len = six_long a.x.now k (omega arith); room = left_room c.loop-bin.invariant.3 (turn (goal.at.write_bin-q-requires c).After-gain_at) c.requires.room }
 
 pub overflow_add-n : goal.overflow_add-n
 overflow_add-n c = let a = c.args in

@@ -16,7 +16,7 @@ write_gains-r-requires c = let a = c.args in
 pub write_bins-requires : goal.write_bins-requires
 write_bins-requires c = let a = c.args in
     let r = bins_room a.mode a.gains.now a.row.now a.x.now a.start a.end c.requires.within.row_ok.few c.requires.choice a.out.now a.p c.requires.room _ _ c.put-q.ensures _ _
-    c.write_gains-r.ensures in record { row_ok = c.requires.within.row_ok; end_in_bounds = c.requires.within.vectors; fractions_loaded = c.requires.fractions_loaded; bit_bound = r.0; room = r.1 }
+    c.write_gains-r.ensures in record { row_ok = c.requires.within.row_ok; end_in_bounds = c.requires.within.vectors; bit_bound = r.0; room = r.1 }
 
 pub returns : goal.returns
 returns c = let a = c.args in

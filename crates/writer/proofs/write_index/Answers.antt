@@ -10,7 +10,7 @@ use Rattle.writer.proofs.write_index.Goals as goal
 pub overflow_cast-i : goal.overflow_cast-i
 overflow_cast-i c = let a = c.args in
     let k = search_few a.hebap a.x.now in
-    let e = c.search_in-i.ensures in
+    let e = c.search-i.ensures in
     search rules
 
 pub put-requires : goal.put-requires
@@ -21,4 +21,4 @@ put-requires c = let m = vq_most c.args.hebap in
 
 pub returns : goal.returns
 unfolding number
-returns c = rw (← c.vq_bits.ensures, ← c.search_in-i.ensures) c.put.ensures
+returns c = rw (← c.vq_bits.ensures, ← c.search-i.ensures) c.put.ensures

@@ -11,7 +11,7 @@ use Rattle.reader.proofs.one_bin.put_index.Goals as goal
 
 pub put_vector-requires : goal.put_vector-requires
 put_vector-requires c = let l = c.requires.bin_bound.1 in
-    record { le_hebap = c.requires.le_hebap; vectors_loaded = c.requires.vectors_loaded; at_in_bounds = (omega arith, omega arith) }
+    record { le_hebap = c.requires.le_hebap; at_in_bounds = (omega arith, omega arith) }
 
 pub overflow_cast-indices : goal.overflow_cast-indices
 overflow_cast-indices c = let m : 2 ^ vq_bits c.args.hebap ≤ 2 ^ 9 = pow_mono (vq_most c.args.hebap) in

@@ -7,13 +7,13 @@ use Rattle.bits.specs.declared.BitMove.{BitMove}
 use Rattle.reader.proofs.one_bin.read_bin.Goals as goal
 
 pub read_index-requires : goal.read_index-requires
-read_index-requires c = record { le_hebap = (coded_bin c.args.mode c.args.hebap c.args.gk Coding.Book c.requires.hebap_bound (sym c.coding_of.ensures ∙ c.in-Book.is)).0; inside = c.requires.inside; vectors_loaded = c.requires.vectors_loaded; bin_bound = c.requires.bin_bound }
+read_index-requires c = record { le_hebap = (coded_bin c.args.mode c.args.hebap c.args.gk Coding.Book c.requires.hebap_bound (sym c.coding_of.ensures ∙ c.in-Book.is)).0; inside = c.requires.inside; bin_bound = c.requires.bin_bound }
 
 pub read_codes-requires : goal.read_codes-requires
-read_codes-requires c = record { le_hebap = ((coded_bin c.args.mode c.args.hebap c.args.gk Coding.Fixed c.requires.hebap_bound (sym c.coding_of.ensures ∙ c.in-Fixed.is)).0, c.requires.hebap_bound); inside = c.requires.inside; scales_loaded = c.requires.scales_loaded; bin_bound = c.requires.bin_bound }
+read_codes-requires c = record { le_hebap = ((coded_bin c.args.mode c.args.hebap c.args.gk Coding.Fixed c.requires.hebap_bound (sym c.coding_of.ensures ∙ c.in-Fixed.is)).0, c.requires.hebap_bound); inside = c.requires.inside; bin_bound = c.requires.bin_bound }
 
 pub read_codes-requires-in-Adaptive : goal.read_codes-requires-in-Adaptive
-read_codes-requires-in-Adaptive c = record { le_hebap = ((coded_bin c.args.mode c.args.hebap c.args.gk Coding.Adaptive c.requires.hebap_bound (sym c.coding_of.ensures ∙ c.in-Adaptive.is)).0, c.requires.hebap_bound); inside = c.requires.inside; scales_loaded = c.requires.scales_loaded; bin_bound = c.requires.bin_bound }
+read_codes-requires-in-Adaptive c = record { le_hebap = ((coded_bin c.args.mode c.args.hebap c.args.gk Coding.Adaptive c.requires.hebap_bound (sym c.coding_of.ensures ∙ c.in-Adaptive.is)).0, c.requires.hebap_bound); inside = c.requires.inside; bin_bound = c.requires.bin_bound }
 
 pub returns-in-Nothing : goal.returns-in-Nothing
 returns-in-Nothing c = let e = c.put_zeros.ensures in

@@ -33,7 +33,7 @@ peek_word-i-requires c = let n = wide (goal.at.peek_word-i-requires c).After-vq_
 
 pub put_index-requires : goal.put_index-requires
 put_index-requires c = let i = index_small c.args.hebap c.vq_bits-n.result c.args.src.now c.args.pos c.vq_bits-n.ensures c.peek_word-i.result c.peek_word-i.ensures in
-    record { le_hebap = (c.requires.le_hebap.0, c.requires.le_hebap.1, i); vectors_loaded = c.requires.vectors_loaded; bin_bound = c.requires.bin_bound }
+    record { le_hebap = (c.requires.le_hebap.0, c.requires.le_hebap.1, i); bin_bound = c.requires.bin_bound }
 
 pub advance_bits-requires : goal.advance_bits-requires
 advance_bits-requires c = let n = wide (goal.at.advance_bits-requires c).After-vq_bits-n in
@@ -64,7 +64,7 @@ peek-i-requires c = let n = wide (goal.at.peek-i-requires c).After-vq_bits-n in 
 
 pub put_index-requires-2 : goal.put_index-requires-2
 put_index-requires-2 c = let i = index_small c.args.hebap c.vq_bits-n.result c.args.src.now c.args.pos c.vq_bits-n.ensures c.peek-i.result c.peek-i.ensures in
-    record { le_hebap = (c.requires.le_hebap.0, c.requires.le_hebap.1, i); vectors_loaded = c.requires.vectors_loaded; bin_bound = c.requires.bin_bound }
+    record { le_hebap = (c.requires.le_hebap.0, c.requires.le_hebap.1, i); bin_bound = c.requires.bin_bound }
 
 pub advance_bits-requires-2 : goal.advance_bits-requires-2
 advance_bits-requires-2 c = let n = wide (goal.at.advance_bits-requires-2 c).After-vq_bits-n in

@@ -27,7 +27,7 @@ loop-bin-init c = let a = c.args in (
 pub read_bin-r-requires : goal.read_bin-r-requires
 read_bin-r-requires c = let a = c.args in
     let few = c.requires.row_ok.few in
-    let long = c.requires.long in record { hebap_bound = known_hebap a.row.now a.start a.end c.loop-bin.bin c.requires.row_ok.known c.loop-bin.invariant.0 (omega arith); inside = c.loop-bin.invariant.6.inside; vectors_loaded = c.requires.vectors_loaded; scales_loaded = c.requires.scales_loaded; bin_bound = (omega arith, (omega arith, omega arith, omega arith)) }
+    let long = c.requires.long in record { hebap_bound = known_hebap a.row.now a.start a.end c.loop-bin.bin c.requires.row_ok.known c.loop-bin.invariant.0 (omega arith); inside = c.loop-bin.invariant.6.inside; bin_bound = (omega arith, (omega arith, omega arith, omega arith)) }
 
 pub returns-in-Refused : goal.returns-in-Refused
 returns-in-Refused c = let a = c.args in

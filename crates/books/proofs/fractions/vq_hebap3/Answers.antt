@@ -1,9 +1,0 @@
--- `books::fractions::vq_hebap3` meets its contract: `tt` is the test of the whole book. Assumes nothing.
-use Rattle.tables.specs.Numbers.{vq_bits_table, vq_hebap3}
-use Rattle.tables.specs.Tables.{book, vq_bits}
-use Rattle.books.proofs.Patterns.{book_shown}
-use Rattle.books.proofs.fractions.vq_hebap3.Goals as goal
-
-pub returns : goal.returns
-unfolding book vq_bits vq_bits_table vq_hebap3
-returns c = book_shown _ (book 3) _ tt
