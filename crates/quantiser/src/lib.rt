@@ -170,9 +170,7 @@ pub fn quantise_scalar(hebap: u8, gk: u8, x: f32) -> PickResult
 {
     if allows(hebap, gk) {
         if levels::in_range(x) {
-            let p = pick::pick(steps_of(hebap, gk), x);
-            let code = p.code;
-            let level = p.level;
+            let CodeLevel { code, level } = pick::pick(steps_of(hebap, gk), x);
             return PickResult::Picked(code, level);
         }
         return PickResult::Refused(answers::COMPONENT);
@@ -202,17 +200,13 @@ fn fill(hebap: u8, gk: u8, x: &[f32], values: &mut [f32]) -> Sums
     let st = steps_of(hebap, gk);
     let mut bits: u32 = 0;
     let mut err: f32 = 0.0;
-    let mut j: usize = 0;
-    while j < x.len() {
-        let p = pick::pick(st, x[j]);
-        let code = p.code;
-        let level = p.level;
+    for (j, &component) in x.iter().enumerate() {
+        let CodeLevel { code, level } = pick::pick(st, component);
         let y = levels::value_of(level);
-        let d = y - x[j];
+        let d = y - component;
         bits += levels::code_bits(hebap, gk, code);
         err += d * d;
         values[j] = y;
-        j += 1;
     }
     Sums { bits, err }
 }
