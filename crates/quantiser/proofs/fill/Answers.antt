@@ -2,17 +2,13 @@
 use Rattle.std.proofs.Common.{sym, ◌∙◌, arith}
 use lib.Ieee.{nan}
 use Rattle.quantiser.proofs.Bins.{done_none, done_all, done_more, bits_most}
-use Rattle.quantiser.proofs.Fixed.{steps_is, steps_names}
 use Rattle.quantiser.proofs.fill.Goals as goal
 
 pub loop-j-init : goal.loop-j-init
 loop-j-init c = done_none c.args.hebap c.args.gk c.args.x.now c.args.values.now (c.requires.x_len.1 ∙ sym c.requires.x_len.0)
 
-pub pick-code-requires : goal.pick-code-requires
-pick-code-requires c = steps_is c.args.hebap c.args.gk _ c.steps_of-st.ensures c.requires.le_hebap.0 c.requires.le_hebap.1
-
 pub loop-j-preserved : goal.loop-j-preserved
-loop-j-preserved c = let n = steps_names c.args.hebap c.args.gk _ c.steps_of-st.ensures in
+loop-j-preserved c = let n = c.steps_of-st.ensures in
     done_more c.args.hebap c.args.gk c.args.x.now c.loop-j.values c.loop-j.bits c.loop-j.err c.loop-j.j nan c.loop-j.invariant (omega arith)
     c.pick-code.result c.value_of-y.result c.code_bits-bits.result (rw (n.0, n.1) at c.pick-code.ensures) c.value_of-y.ensures c.code_bits-bits.ensures
 

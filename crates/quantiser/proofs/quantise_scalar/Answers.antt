@@ -3,7 +3,6 @@ use Rattle.std.proofs.Common.{◌≤◌, sym, ◌∙◌}
 use borrow.Author.Tests.{not-true, not-false}
 use Rattle.levels.specs.Component.{too_large}
 use Rattle.quantiser.specs.Quantise.{quantised_up_to}
-use Rattle.quantiser.proofs.Fixed.{steps_is, steps_names}
 use Rattle.quantiser.proofs.Ints.{allowed_range}
 use Rattle.quantiser.proofs.quantise_scalar.Goals as goal
 use Rattle.quantiser.proofs.quantise_scalar.Goals.{Then-in_range}
@@ -15,15 +14,10 @@ hebap_range c =
 pub steps_of-requires : goal.steps_of-requires
 steps_of-requires c = hebap_range c
 
-pub pick-code-requires : goal.pick-code-requires
-pick-code-requires c = let a = c.args in
-    let r = hebap_range (goal.at.pick-code-requires c).Then-in_range in
-    steps_is a.hebap a.gk _ c.steps_of.ensures r.0 r.1
-
 pub returns-then-in_range : goal.returns-then-in_range
 unfolding quantised_up_to
 returns-then-in_range c = let r = c.in_range in
-    let n = steps_names c.args.hebap c.args.gk _ c.steps_of.ensures in
+    let n = c.steps_of.ensures in
     let e = rw (n.0, n.1) at c.pick-code.ensures in
     rw (e, sym c.allows.ensures ∙ c.if-allows.true, not-true (too_large c.args.x) (sym r.ensures ∙ c.if-in_range.true))
 
