@@ -8,8 +8,10 @@ use native.Mathlib.Numerals.{add-one}
 use native.Mathlib.Omega.{arith}
 use borrow.Author.Tests.{le-leb, lt-leb, leb-true, leb-false}
 use lib.Dec.{leb}
-use mathlib.Core.List.{[], ◌∷◌}
-use lib.ListN.{length, get_or}
+use mathlib.Core.List.{List, [], ◌∷◌}
+use lib.ListN.{length, get_or, take, drop}
+use Rattle.std.specs.Bool.{MatchBool}
+use Rattle.std.proofs.lemmas.List.{get_or-take, get_or-drop, length-take}
 use Rattle.bits.proofs.Tests.{or_right}
 use Rattle.channel.specs.Bins.{from, over, sum_over, some_over}
 
@@ -71,17 +73,10 @@ unfolding some_over
 some_next p start e h = rw (le-leb start e h)
 
 -- looked at without an end on the way: found so far, or here
-pub some_more : (p : ℕ → Bool) (start i : ℕ) (found next : Bool) → start ≤ i → found ≡ some_over p start i → next ≡ cond (p i) true found → next ≡ some_over p start (i + 1)
-some_more p start i found next h e n = n ∙ go found (p i) ∙ ap (λ (t : Bool). t || p i) e ∙ sym (ap (some_over p start) (add-one i) ∙ some_next p start i h)
-  where
-    go : (a b : Bool) → cond b true a ≡ a || b
-    go true true = refl
-    go true false = refl
-    go false true = refl
-    go false false = refl
-
-pub some_turn : (p : ℕ → Bool) (start i : ℕ) → start ≤ i → some_over p start i ≡ false → p i ≡ false → some_over p start (i + 1) ≡ false
-some_turn p start i h a b = ap (some_over p start) (add-one i) ∙ some_next p start i h ∙ ap (λ (t : Bool). t || p i) a ∙ b
+pub some_more : (p : ℕ → Bool) (start i : ℕ) (found : Bool) → found ≡ some_over p start (start + i) → found || p (start + i) ≡ some_over p start (start + (i + 1))
+some_more p start i found e =
+    let n : start + (i + 1) ≡ suc (start + i) = omega arith in
+    ap (λ (t : Bool). t || p (start + i)) e ∙ sym (ap (some_over p start) n ∙ some_next p start (start + i) (omega arith))
 
 pub some_found : (p : ℕ → Bool) (start i end : ℕ) → start ≤ i → i < end → p i ≡ true → true ≡ some_over p start end
 some_found p start i zero h l q = absurd (omega arith)
@@ -90,14 +85,18 @@ some_found p start i (suc e) h l q =
     (λ (r : i < e). sym (some_next p start e (omega arith) ∙ ap (λ (t : Bool). t || p e) (sym (some_found p start i e h r q))))
     (eq-or-lt_of_le (le_of_suc-le-suc l))
 
-pub some_end : (p : ℕ → Bool) (start i end : ℕ) → i ≤ end → end ≤ i → some_over p start i ≡ false → false ≡ some_over p start end
-some_end p start i end a b q = sym q ∙ ap (some_over p start) (le_antisymm a b)
-
-pub sum_end : (f : ℕ → ℕ) (start i end t : ℕ) → i ≤ end → end ≤ i → t ≡ sum_over f start i → t ≡ sum_over f start end
-sum_end f start i end t a b q = q ∙ ap (sum_over f start) (le_antisymm a b)
-
 pub sum_turn : (f : ℕ → ℕ) (a i t r : ℕ) → a ≤ i → t ≡ sum_over f a i → r ≡ f i → t + r ≡ sum_over f a (i + 1)
 sum_turn f a i t r h p q = let n = sum_next f a i h in let e = ap (sum_over f a) (add-one i) in omega arith
+
+-- the same where the place is counted from the first
+pub sum_more : (f : ℕ → ℕ) (start i t : ℕ) → t ≡ sum_over f start (start + i) → t + f (start + i) ≡ sum_over f start (start + (i + 1))
+sum_more f start i t e =
+    let n : start + (i + 1) ≡ suc (start + i) = omega arith in
+    ap (λ (s : ℕ). s + f (start + i)) e ∙ sym (ap (sum_over f start) n ∙ sum_next f start (start + i) (omega arith))
+
+-- the place i of the places a to b - 1 of a list
+pub get_or-within : {A : Type 0} (l : List A) (a b i : ℕ) (d : A) → i < length (take (b - a) (drop a l)) → get_or (take (b - a) (drop a l)) i d ≡ get_or l (a + i) d
+get_or-within l a b i d h = get_or-take (b - a) (drop a l) i d (omega (arith, length-take (b - a) (drop a l))) ∙ get_or-drop a l i d
 
 pub one_small : (b : Bool) → cond {A = ℕ} b 1 0 ≤ 1
 one_small true = omega arith
@@ -159,3 +158,8 @@ none_over p start (suc e) h = go (leb start e) refl (none_over p start e (λ k l
     go : (t : Bool) → leb start e ≡ t → some_over p start e ≡ false → cond t (some_over p start e || p e) false ≡ false
     go true q r = ap (λ (t : Bool). t || p e) r ∙ h e (leb-true start e q) (omega arith)
     go false q r = refl
+
+-- what a search of the places finds
+pub some_is : (p : ℕ → Bool) (start end : ℕ) (b : Bool) → MatchBool b ((k : ℕ) × (start ≤ k) × (k < end) × (p k ≡ true)) ((k : ℕ) → start ≤ k → k < end → p k ≡ false) → b ≡ some_over p start end
+some_is p start end true (k, l, u, h) = some_found p start k end l u h
+some_is p start end false h = sym (none_over p start end h)

@@ -9,6 +9,7 @@ ghost use Rattle.answers.specs.Answers.{answered};
 
 use answers::Refusal;
 
+#[tactic(auto, unfolding(crate::specs::Row::no_gains))]
 pub fn no_gains() -> [u8; 256]
     ensures { result ≡ no_gains }
 {
@@ -40,29 +41,27 @@ pub fn check_row(row: &[u8], start: usize, end: usize, short: bool) -> Result<()
 
 // Whether some hebap of the bins start to end - 1 is above 19. All are looked at, which the machine does for several
 // together.
+#[tactic(auto, using(crate::proofs::Over::some_none))]
 fn any_unknown(row: &[u8], start: usize, end: usize) -> bool
     requires { (start ≤ end) × (end ≤ length row.now) }
     ensures { result ≡ some_over (unknown_at row.now) start end }
 {
     let mut found = false;
-    let mut bin = start;
-    while bin < end {
-        found = if row[bin] > 19 { true } else { found };
-        bin += 1;
+    for &hebap in &row[start..end] {
+        found |= hebap > 19;
     }
     found
 }
 
 // How many bins are active in a mode.
+#[tactic(auto, using(crate::proofs::Rows::count_start, crate::proofs::Rows::count_most, crate::proofs::Over::one_small))]
 pub fn count_active(row: &[u8], start: usize, end: usize, mode: u8) -> usize
     requires { (start ≤ end) × (end ≤ 256) × (end ≤ length row.now) }
     ensures { result ≡ active_count mode row.now start end }
 {
     let mut n: usize = 0;
-    let mut bin = start;
-    while bin < end {
-        n += gains_used(mode, row[bin]);
-        bin += 1;
+    for &hebap in &row[start..end] {
+        n += gains_used(mode, hebap);
     }
     n
 }
@@ -71,15 +70,12 @@ pub fn count_active(row: &[u8], start: usize, end: usize, mode: u8) -> usize
 pub fn gain_at(gains: &[u8], n: usize) -> u8
     ensures { result ≡ get_or gains.now n 0 }
 {
-    if n < gains.len() {
-        return gains[n];
-    }
-    0
+    gains.get(n).copied().unwrap_or(0)
 }
 
 // How many gains a bin uses up. No branch, so that loops over a row take several bins at a time.
 pub fn gains_used(mode: u8, hebap: u8) -> usize
     ensures { result ≡ cond (active mode hebap) 1 0 }
 {
-    if gains::is_active(mode, hebap) { 1 } else { 0 }
+    usize::from(gains::is_active(mode, hebap))
 }

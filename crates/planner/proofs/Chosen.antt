@@ -1,9 +1,9 @@
 -- A choice and a plan that are given: their bits, and whether they fit. Assumes nothing.
 use mathlib.Core.Path.{◌≡◌, refl, sym, ap, ◌∙◌}
-use mathlib.Core.Bool.{Bool, true, false, not, ◌||◌, cond}
+use mathlib.Core.Bool.{Bool, true, false, not, cond}
 use mathlib.Core.List.{List, ◌++◌}
-use Prim.Native.Nat.{ℕ, zero, suc, ◌+◌, ◌*◌, ◌≤◌, ◌<◌}
-use native.Mathlib.Nat.{le_refl, le_trans}
+use Prim.Native.Nat.{ℕ, ◌+◌, ◌*◌, ◌≤◌, ◌<◌}
+use native.Mathlib.Nat.{le_trans}
 use native.Mathlib.Omega.{arith}
 use borrow.Author.Tests.{le-leb, lt-leb, eq-eqb, ne_eqb, not-true, not-false, leb-true, eqb-true}
 use lib.Dec.{eqb}
@@ -13,7 +13,7 @@ use lib.Ieee.{Float}
 use Rattle.gains.specs.Gains.{active, allowed_gain, gain_word_bits}
 use Rattle.channel.specs.Bins.{sum_over, some_over}
 use Rattle.channel.specs.Row.{active_count, gain_at, no_gains, six_of}
-use Rattle.channel.proofs.Over.{sum_same, sum_at_most, some_none, some_next, none_there}
+use Rattle.channel.proofs.Over.{sum_same, sum_at_most, none_there, none_over}
 use Rattle.bits.proofs.Tests.{both}
 use Rattle.planner.specs.Cost.{bin_bits}
 use Rattle.planner.specs.Choice.{chosen_at, payload_of, Choice, plan_mode, plan_gains, plan_payload, choice_bits}
@@ -68,10 +68,6 @@ module _ (p : Plan) (row : List ℕ) (start end : ℕ) (x : List Float) (t : Boo
       rw (eb, f, c)
 
 -- ---- what fits is a choice
-some_never : (p : ℕ → Bool) (n : ℕ) → ((i : ℕ) → i < n → p i ≡ false) → some_over p 0 n ≡ false
-some_never p zero h = some_none p 0 0 (le_refl 0)
-some_never p (suc n) h = some_next p 0 n (omega arith) ∙ ap (λ (t : Bool). t || p n) (some_never p n (λ i l. h i (omega arith))) ∙ h n (omega arith)
-
 -- only the gains of the active bins count
 payload_same : (mode : ℕ) (g l row : List ℕ) (x : List Float) (start end : ℕ) → ((i : ℕ) → i < active_count mode row start end → get_or g i 0 ≡ get_or l i 0) → payload_of mode g row x start end ≡ payload_of mode l row x start end
 unfolding payload_of chosen_at gain_at
@@ -116,7 +112,7 @@ plan_fits_lem row x start end =
     let c = plan_choice row x start end in
     let n : length g ≡ active_count m row start end = c.one_each in
     let w : some_over (wrong_gain m (g ++ z)) 0 (length g) ≡ false =
-    some_never (wrong_gain m (g ++ z)) (length g) (λ i l. ap (λ (k : ℕ). not (allowed_gain m k)) (get_or-append g z 0 i l) ∙ ap not (c.allowed i l)) in
+    none_over (wrong_gain m (g ++ z)) 0 (length g) (λ i _ l. ap (λ (k : ℕ). not (allowed_gain m k)) (get_or-append g z 0 i l) ∙ ap not (c.allowed i l)) in
     let q : payload_of m (g ++ z) row x start end ≡ payload_of m g row x start end = payload_same m (g ++ z) g row x start end (λ i l. get_or-append g z 0 i (omega arith)) in
     let b : 2 + payload_of m g row x start end ≡ 2 + plan_payload row x start end = plan_bits row x start end in
     let e : plan_payload row x start end ≡ payload_of m (g ++ z) row x start end = omega arith in

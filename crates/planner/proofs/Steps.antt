@@ -4,7 +4,6 @@ use mathlib.Core.Bool.{Bool, true, false, not, cond}
 use mathlib.Core.List.{List}
 use Prim.Native.Nat.{ℕ, zero, suc, ◌+◌, ◌-◌, ◌*◌, ◌/◌, ◌^◌, ◌≤◌, ◌<◌}
 use native.Mathlib.Nat.{le_trans, le_of_eq, le_antisymm, suc-mul, add-mul, mul-le-mul_right}
-use native.Mathlib.Numerals.{add-one}
 use native.Mathlib.Omega.{arith}
 use borrow.Author.Tests.{lt-ltb, le-ltb, ne_eqb, eqb-true, leb-false}
 use lib.Dec.{T, leb, eqb}
@@ -16,7 +15,7 @@ use Rattle.tables.proofs.Rules.{mant_bits_lem}
 use Rattle.gains.specs.Gains.{other_gains, word_bits, sections, gain_word_bits}
 use Rattle.quantiser.specs.Quantise.{scalar_bits, codes_bits}
 use Rattle.channel.specs.Bins.{sum_over}
-use Rattle.channel.proofs.Over.{one_small, sum_turn, sum_none, sum_next, sum_le, sum_grows}
+use Rattle.channel.proofs.Over.{one_small, sum_none, sum_next, sum_le, sum_grows}
 use Rattle.planner.specs.Cost.{bin_bits}
 use Rattle.planner.specs.Choice.{cheaper, cheapest, least_up_to}
 use Rattle.planner.specs.Work.{size_of, limit_of, limits_of, component_bits, six_bits, tag_at, tagged_bits, costs_of, cost_in, gain_in, plain_bits}
@@ -158,17 +157,20 @@ take_next cost g k a b p q l = sym (rw (lt-ltb (cost k) (cost g) (omega arith)))
 pub keep_first : (cost : ℕ → ℕ) (g k a b : ℕ) → a ≡ cost k → b ≡ cost g → b ≤ a → g ≡ cheaper cost g k
 keep_first cost g k a b p q l = sym (rw (le-ltb (cost k) (cost g) (omega arith)))
 
--- the least of one mode more
-module _ (cost : ℕ → ℕ) (n g a b : ℕ) (eg : g ≡ least_up_to cost n) (ea : a ≡ cost (n + 1)) (eb : b ≡ cost g) where
-  one_more_lem : cheaper cost g (n + 1) ≡ least_up_to cost (n + 1)
+-- the least of the modes to m, from that of the modes below
+module _ (cost : ℕ → ℕ) (m g a b : ℕ) (low : g < m) (eg : g ≡ least_up_to cost (m - 1)) (ea : a ≡ cost m) (eb : b ≡ cost g) where
+  one_more_lem : cheaper cost g m ≡ least_up_to cost (m + 1 - 1)
   unfolding least_up_to
-  one_more_lem = ap (λ (z : ℕ). cheaper cost z (n + 1)) eg ∙ ap (cheaper cost (least_up_to cost n)) (add-one n) ∙ sym (ap (least_up_to cost) (add-one n))
+  one_more_lem =
+      let n : m ≡ suc (m - 1) = omega arith in
+      let k : m + 1 - 1 ≡ suc (m - 1) = omega arith in
+      ap (λ (z : ℕ). cheaper cost z m) eg ∙ ap (cheaper cost (least_up_to cost (m - 1))) n ∙ sym (ap (least_up_to cost) k)
 
-  pub least_taken : a < b → n + 1 ≡ least_up_to cost (n + 1)
-  least_taken l = take_next cost g (n + 1) a b ea eb l ∙ one_more_lem
+  pub least_taken : a < b → (m < m + 1) × (m ≡ least_up_to cost (m + 1 - 1))
+  least_taken l = (omega arith, take_next cost g m a b ea eb l ∙ one_more_lem)
 
-  pub least_kept : b ≤ a → g ≡ least_up_to cost (n + 1)
-  least_kept l = keep_first cost g (n + 1) a b ea eb l ∙ one_more_lem
+  pub least_kept : b ≤ a → (g < m + 1) × (g ≡ least_up_to cost (m + 1 - 1))
+  least_kept l = (omega arith, keep_first cost g m a b ea eb l ∙ one_more_lem)
 
 pub gain_1 : (mode g : ℕ) (c : Costs) → mode ≡ 1 → g ≡ cheaper (cost_in c) 1 2 → g ≡ gain_in mode c
 unfolding gain_in cheapest other_gains
@@ -200,10 +202,6 @@ pub tagged_most : (limit : Float) (x : List Float) (a i t : ℕ) → i ≤ a + 6
 tagged_most limit x a i t h e =
     let f = tag_at limit x in
     le_trans (le_of_eq e) (le_trans (sum_grows f a i (a + 6) h) (sum_run_le f 1 a 6 (λ k. one_small (le limit (size_of (get_or x k nan))))))
-
-pub tagged_turn : (limit : Float) (x : List Float) (a i t : ℕ) (s : Float) (r : ℕ) → a ≤ i → t ≡ sum_over (tag_at limit x) a i → s ≡ size_of (get_or x i nan) → r ≡ cond (le limit s) 1 0
-    → t + r ≡ sum_over (tag_at limit x) a (i + 1)
-tagged_turn limit x a i t s r h p es er = sum_turn (tag_at limit x) a i t r h p (er ∙ ap (λ (z : Float). cond {A = ℕ} (le limit z) 1 0) es)
 
 -- a count times a width
 pub product_most : (a b : ℕ) → a ≤ 12 → b ≤ 16 → a * b ≤ 192

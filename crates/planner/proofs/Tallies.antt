@@ -4,11 +4,11 @@ use mathlib.Core.Bool.{Bool, true, false, cond}
 use mathlib.Core.List.{List, [], ◌∷◌, ◌++◌}
 use mathlib.Core.Logic.{◌⊎◌, ⊎_elim}
 use Prim.Native.Nat.{ℕ, ◌+◌, ◌-◌, ◌*◌, ◌≤◌, ◌<◌}
-use native.Mathlib.Nat.{le_refl, le_trans, le_antisymm}
+use native.Mathlib.Nat.{le_refl, le_trans}
 use native.Mathlib.Numerals.{add-one}
 use native.Mathlib.Omega.{arith}
-use borrow.Author.Tests.{lt-ltb, le-ltb, ltb-true, ltb-false, eqb-true, eqb-false}
-use lib.Dec.{eqb, ltb}
+use borrow.Author.Tests.{eqb-true, eqb-false}
+use lib.Dec.{eqb}
 use lib.ListN.{length, get_or, take, drop, set, replicate, length-set, length-drop, get_or-replicate}
 use lib.Seq.{get_or-set_same, get_or-set_other, take-set-le, take-set-lt, drop-set-lt, drop-set-add, take-suc-set, length-take-le}
 use lib.Ieee.{Float}
@@ -16,7 +16,7 @@ use Rattle.tables.proofs.Tests.{lt_or_le}
 use Rattle.gains.specs.Gains.{active, other_gains, gain_word_bits}
 use Rattle.gains.proofs.Cases.{active_low, active_high}
 use Rattle.channel.specs.Bins.{sum_over}
-use Rattle.channel.specs.Row.{no_gains, six_of}
+use Rattle.channel.specs.Row.{six_of}
 use Rattle.channel.proofs.Over.{sum_none, sum_at_most, sum_turn}
 use Rattle.channel.proofs.Rows.{rank_turn, count_most, count_start}
 use Rattle.planner.specs.Cost.{bin_bits}
@@ -83,35 +83,6 @@ room_one bits used kept m b n p g r = record { for_bits = length-set bits m b �
 
 pub room_none : (bits used kept : List ℕ) (m b : ℕ) → FourModes bits used kept → FourModes (set bits m b) used kept
 room_none bits used kept m b r = record { for_bits = length-set bits m b ∙ r.for_bits; for_used = r.for_used; for_gains = r.for_gains }
-
--- ---- one bin in all modes
-pub counted_none : (h : ℕ) (c : Costs) (t : ℕ → Tally) → OneBinMore (λ i. ltb i 0) h c t t
-counted_none h c t i l = sym (ap (λ (b : Bool). cond b (with_bin i h c (t i)) (t i)) (le-ltb i 0 (omega arith)))
-
--- the mode that is next is as it was
-pub next_small : (h : ℕ) (c : Costs) (m : ℕ) (old new : ℕ → Tally) → m ≤ 3 → OneBinMore (λ i. ltb i m) h c old new → Small (old m) → Small (new m)
-next_small h c m old new l p s = subst Small (sym (p m l ∙ ap (λ (t : Bool). cond t (with_bin m h c (old m)) (old m)) (le-ltb m m (le_refl m)))) s
-
-pub counted_turn : (h : ℕ) (c : Costs) (m : ℕ) (old mid new : ℕ → Tally) → OneBinMore (λ i. ltb i m) h c old mid → OneBinMore (λ i. eqb i m) h c mid new → OneBinMore (λ i. ltb i (m + 1)) h c old new
-counted_turn h c m old mid new p q i l = go (ltb i m) refl (eqb i m) refl (p i l) (q i l)
-  where
-    with : Tally → Tally
-    with = with_bin i h c
-
-    at : (t : Bool) → ltb i (m + 1) ≡ t → new i ≡ cond t (with (old i)) (old i) → new i ≡ cond (ltb i (m + 1)) (with (old i)) (old i)
-    at t e k = k ∙ sym (ap (λ (u : Bool). cond u (with (old i)) (old i)) e)
-
-    go : (s : Bool) → ltb i m ≡ s → (t : Bool) → eqb i m ≡ t → mid i ≡ cond s (with (old i)) (old i) → new i ≡ cond t (with (mid i)) (mid i) → new i ≡ cond (ltb i (m + 1)) (with (old i)) (old i)
-    go true a true b e k = absurd (let x = ltb-true i m a in let y = eqb-true i m b in omega arith)
-    go true a false b e k = let x = ltb-true i m a in at true (lt-ltb i (m + 1) (omega arith)) (k ∙ e)
-    go false a true b e k = let y = eqb-true i m b in at true (lt-ltb i (m + 1) (omega arith)) (k ∙ ap with e)
-    go false a false b e k = let x = ltb-false i m a in let y = eqb-false i m b in at false (le-ltb i (m + 1) (past i m x y)) (k ∙ e)
-      where
-        past : (i m : ℕ) → m ≤ i → (i ≡ m → ⊥) → m + 1 ≤ i
-        past i m x y = omega arith
-
-pub counted_all : (h : ℕ) (c : Costs) (m : ℕ) (old new : ℕ → Tally) → 4 ≤ m → OneBinMore (λ i. ltb i m) h c old new → OneBinMore (λ i. true) h c old new
-counted_all h c m old new f p i l = p i l ∙ ap (λ (t : Bool). cond t (with_bin i h c (old i)) (old i)) (lt-ltb i m (omega arith))
 
 -- ---- all bins
 sum_bound : (f : ℕ → ℕ) (start end : ℕ) → end ≤ 256 → ((k : ℕ) → f k ≤ 256) → sum_over f start end ≤ 65536
@@ -216,9 +187,6 @@ module _ (row : List ℕ) (x : List Float) (start k plain mode : ℕ) (t : Tally
           plus : (a b c : ℕ) → a + (b + c) ≡ a + b + c
           plus a b c = omega arith
 
-pub tally_end : (row : List ℕ) (x : List Float) (start k end plain : ℕ) (t : ℕ → Tally) → k ≤ end → end ≤ k → TalliesOf row x start k plain t → TalliesOf row x start end plain t
-tally_end row x start k end plain t a b p = subst (λ (e : ℕ). TalliesOf row x start e plain t) (le_antisymm a b) p
-
 -- ---- the payloads
 module _ (row : List ℕ) (x : List Float) (start end plain : ℕ) (bits used kept : List ℕ) (p : TalliesOf row x start end plain (mode_at bits used kept)) where
   pub payload_is : (m : ℕ) → m ≤ 3 → payload_in plain bits used m ≡ least_of row x start end m
@@ -228,12 +196,3 @@ module _ (row : List ℕ) (x : List Float) (start end plain : ℕ) (bits used ke
   pub all_few : end ≤ 256 → AllFew plain bits used
   unfolding mode_at
   all_few h m l = let f = tally_few row x start end plain m (mode_at bits used kept m) (p m l) h in (f.0, le_trans f.1 h)
-
--- ---- the gains of one mode, copied over zeros
-pub gains_copied : (kept : List ℕ) (a count : ℕ) (z r : List ℕ) → a + count ≤ length kept → z ≡ no_gains
-    → r ≡ take (a + count - a) (drop a kept) ++ drop (length (take (a + count - a) (drop a kept))) z → r ≡ take count (drop a kept) ++ drop count no_gains
-gains_copied kept a count z r room ez er =
-    let d = drop a kept in
-    let e : a + count - a ≡ count = omega arith in
-    let n = length-drop a kept in
-    er ∙ ap (λ (k : ℕ). take k d ++ drop (length (take k d)) z) e ∙ ap (λ (k : ℕ). take count d ++ drop k z) (length-take-le count d (omega arith)) ∙ ap (λ (w : List ℕ). take count d ++ drop count w) ez

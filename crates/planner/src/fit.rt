@@ -10,14 +10,7 @@ use super::one_bin;
 pub fn any_wrong(mode: u8, gains: &[u8], count: usize) -> bool
     ensures { result ≡ some_over (wrong_gain mode gains.now) 0 count }
 {
-    let mut i: usize = 0;
-    while i < count {
-        if !gains::is_allowed(mode, channel::gain_at(gains, i)) {
-            return true;
-        }
-        i += 1;
-    }
-    false
+    (0..count).any(|i| !gains::is_allowed(mode, channel::gain_at(gains, i)))
 }
 
 // The bits of the bins at the gains that were chosen.
@@ -27,12 +20,10 @@ pub fn chosen_bits(row: &[u8], start: usize, end: usize, x: &[f32], mode: u8, ga
 {
     let mut n: usize = 0;
     let mut bits: u32 = 0;
-    let mut bin = start;
-    while bin < end {
+    for bin in start..end {
         let hebap = row[bin];
         bits += one_bin::bin_bits(mode, hebap, x, 6 * bin, channel::gain_at(gains, n));
         n += channel::gains_used(mode, hebap);
-        bin += 1;
     }
     bits
 }

@@ -49,7 +49,7 @@ fn plan_bins(row: &[u8], start: usize, end: usize, x: &[f32]) -> Plan
     let mut used = tally::no_counts();
     let mut kept = tally::no_places();
     let plain = tally::tally_bins(row, start, end, x, &mut bits, &mut used, &mut kept);
-    let mode = tally::best_mode(plain, &bits, &used, 3);
+    let mode = tally::best_mode(plain, &bits, &used);
     let payload = tally::payload_in(plain, &bits, &used, mode);
     let m = mode as usize;
     let count = used[m] as usize;
@@ -78,14 +78,7 @@ fn any_too_large(row: &[u8], start: usize, end: usize, x: &[f32]) -> bool
     requires { Within row.now start end x.now }
     ensures { result ≡ some_over (too_large_at row.now x.now) start end }
 {
-    let mut bin = start;
-    while bin < end {
-        if too_large_at(row, x, bin) {
-            return true;
-        }
-        bin += 1;
-    }
-    false
+    (start..end).any(|bin| too_large_at(row, x, bin))
 }
 
 // Refuses with the lowest of causes 1 to 5 that holds.

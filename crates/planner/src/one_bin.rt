@@ -58,26 +58,17 @@ fn size(x: f32) -> f32
     if x < 0.0 { -x } else { x }
 }
 
-fn one_if(b: bool) -> u32
-    ensures { result ≡ cond b 1 0 }
-{
-    if b { 1 } else { 0 }
-}
-
 // Six codes of the bits small, and large more behind each tag. How many take the tag is counted, which the machine does
 // for several together.
-#[tactic(auto, using(crate::proofs::Steps::tagged_most, crate::proofs::Steps::tagged_turn, crate::proofs::Steps::product_most, channel::proofs::Over::one_small))]
+#[tactic(auto, using(crate::proofs::Steps::tagged_most, crate::proofs::Steps::product_most, channel::proofs::Over::one_small))]
 fn tagged_bits(x: &[f32], a: usize, limit: f32, small: u32, large: u32) -> u32
     requires a_in_bounds { a + 6 ≤ length x.now }
     requires small_bound { (small ≤ 16) × (large ≤ 16) }
     ensures { result ≡ tagged_bits x.now a limit small large }
 {
     let mut n: u32 = 0;
-    let mut i = a;
-    let end = a + 6;
-    while i < end {
-        n += one_if(size(x[i]) >= limit);
-        i += 1;
+    for &component in &x[a..a + 6] {
+        n += u32::from(size(component) >= limit);
     }
     6 * small + n * large
 }

@@ -37,10 +37,8 @@ fn tally_bin(hebap: u8, c: Costs, bits: &mut [u32], used: &mut [u32], kept: &mut
         (mode_at bits.old used.old kept.old) (mode_at bits.new used.new kept.new) }
     ensures four_modes_2 { FourModes bits.new used.new kept.new }
 {
-    let mut mode: u8 = 0;
-    while mode < 4 {
+    for mode in 0..4 {
         tally_mode(mode, hebap, c, &mut *bits, &mut *used, &mut *kept);
-        mode += 1;
     }
 }
 
@@ -60,14 +58,11 @@ pub fn tally_bins(
     ensures { TalliesOf row.now x.now start end result (mode_at bits.new used.new kept.new) }
 {
     let mut plain: u32 = 0;
-    let mut bin = start;
-    while bin < end {
+    for bin in start..end {
         let hebap = row[bin];
-        let a = 6 * bin;
-        bin += 1;
         match hebap {
             8..=16 => {
-                let c = one_bin::gain_costs(hebap, x, a);
+                let c = one_bin::gain_costs(hebap, x, 6 * bin);
                 tally_bin(hebap, c, &mut *bits, &mut *used, &mut *kept);
             }
             _ => {
@@ -87,16 +82,14 @@ pub fn payload_in(plain: u32, bits: &[u32], used: &[u32], mode: u8) -> u32
     plain + bits[m] + gains::gain_word_bits(mode, used[m])
 }
 
-// The mode of least payload from 0 to top, the lowest of equals.
-pub fn best_mode(plain: u32, bits: &[u32], used: &[u32], top: u8) -> u8
-    requires top_bound { (top ≤ 3) × (length bits.now ≡ 4) × (length used.now ≡ 4) }
+// The mode of least payload, the lowest of equals.
+pub fn best_mode(plain: u32, bits: &[u32], used: &[u32]) -> u8
+    requires lengths { (length bits.now ≡ 4) × (length used.now ≡ 4) }
     requires all_few { AllFew plain bits.now used.now }
-    ensures { result ≡ least_up_to (payload_in plain bits.now used.now) top }
+    ensures { result ≡ least_up_to (payload_in plain bits.now used.now) 3 }
 {
     let mut best: u8 = 0;
-    let mut mode: u8 = 0;
-    while mode < top {
-        mode += 1;
+    for mode in 1..4 {
         let next = payload_in(plain, bits, used, mode);
         let least = payload_in(plain, bits, used, best);
         if next < least {
@@ -106,25 +99,13 @@ pub fn best_mode(plain: u32, bits: &[u32], used: &[u32], top: u8) -> u8
     best
 }
 
-fn copy(from: &[u8], to: &mut [u8])
-    requires { length from.now ≤ length to.old }
-    ensures { to.new ≡ from.now ++ drop (length from.now) to.old }
-{
-    let mut i: usize = 0;
-    while i < from.len() {
-        to[i] = from[i];
-        i += 1;
-    }
-}
-
 // The first count gains of those from the place a on, and zeros.
 pub fn gains_from(kept: &[u8], a: usize, count: usize) -> [u8; 256]
     requires { (count ≤ 256) × (a + count ≤ length kept.now) × (a ≤ 1024) }
     ensures { result ≡ take count (drop a kept.now) ++ drop count no_gains }
 {
     let mut gains = channel::no_gains();
-    let b = a + count;
-    copy(&kept[a..b], &mut gains);
+    gains[..count].copy_from_slice(&kept[a..a + count]);
     gains
 }
 

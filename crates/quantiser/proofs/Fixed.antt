@@ -1,4 +1,4 @@
--- What a hebap and a gain fix: the parts of `steps_of`, what they mean, and how large they get. Assumes nothing.
+-- What a hebap and a gain fix: the parts of `Steps`, what they mean, and how large they get. Assumes nothing.
 use Rattle.std.proofs.Common.{◌≡◌, ℕ, ◌-◌, ◌^◌, ◌≤◌, eqb, ℤ, pos, negsuc, sym, refl, ap, ◌∙◌, subst, arith, pow_pos, le-ltb, ne_eqb}
 use lib.Ieee.{Float, binary32, div}
 use Rattle.tables.proofs.Rules.{mant_bits_lem}
@@ -11,18 +11,8 @@ use Rattle.levels.proofs.Remapping.{remap_by_lem}
 use Rattle.levels.proofs.Scaling.{scaled_divided}
 use Rattle.levels.proofs.Signed.{by_test, halves, small_width, large_width}
 use Rattle.quantiser.specs.Quantise.{min_z, value_at, unit_of, slope_at}
-use Rattle.quantiser.specs.Work.{exponent_of, level_by, unit_by, steps_of, IsSteps}
+use Rattle.quantiser.specs.Work.{exponent_of, level_by, unit_by}
 use Rattle.quantiser.specs.declared.Steps.{Steps}
-
--- steps that were worked out are those of the hebap and the gain that they name
-module _ (h g : ℕ) (st : Steps) (e : st ≡ steps_of h g) where
-  pub steps_is : 8 ≤ h → h ≤ 19 → IsSteps st
-  unfolding steps_of
-  steps_is low high = subst IsSteps (sym e) (record { low = low; high = high; is = refl })
-
-  pub steps_names : (st.hebap ≡ h) × (st.gk ≡ g)
-  unfolding steps_of
-  steps_names = (ap (λ (t : Steps). t.hebap) e, ap (λ (t : Steps). t.gk) e)
 
 pub scale_range : (h g : ℕ) → 8 ≤ h → h ≤ 19 → (1 ≤ exponent_of h g) × (exponent_of h g ≤ 16)
 scale_range h g l u =
@@ -42,6 +32,18 @@ module _ (h g n : ℕ) (l : 1 ≤ n) (u : n ≤ 16) where
   unfolding slope_at
   unit_slope i = rw (ne_eqb g 1 i, value_at_lem (pos 1), value_at_lem (pos 0), first_is)
 
+  module _ (r : Remap) (p : Float) (er : r ≡ remap_of h g) (ep : p ≡ div binary32 f1 (power n)) where
+    value_is : (k : ℤ) → level_by r p k ≡ value_at h g n k
+    value_is k = rw (er, ep) (value_at_lem k)
+
+    module _ (w : Float) (ew : w ≡ unit_by r p g) where
+      one_is : g ≡ 1 → w ≡ unit_of h n
+      one_is i = ew ∙ rw (er, ep, i) (remap_by_lem h 1 (div binary32 f1 (power n)))
+
+      slope_is : (g ≡ 1 → ⊥) → w ≡ slope_at h g n
+      slope_is i = ew ∙ rw (er, ep) (unit_slope i)
+
+-- what the fields of a `Steps` are
 pub record Fixed (st : Steps) : Type 0 where
   pub n_is : st.n ≡ st.large - 1
   pub value_is : (k : ℤ) → level_by st.remap st.part k ≡ value_at st.hebap st.gk st.n k
@@ -49,40 +51,28 @@ pub record Fixed (st : Steps) : Type 0 where
   pub unit_large : (st.gk ≡ 1 → ⊥) → st.unit ≡ slope_at st.hebap st.gk st.n
   pub zero_is : st.zero ≡ value_at st.hebap st.gk st.n (pos 0)
   pub below_is : st.below ≡ value_at st.hebap st.gk st.n (negsuc 0)
-  pub whole_is : st.whole ≡ power (mant_bits st.hebap - 1)
-  pub small_is : st.small ≡ small_bits (mant_bits st.hebap) st.gk
-  pub large_is : st.large ≡ large_bits (mant_bits st.hebap) st.gk
   pub n_range : (1 ≤ st.n) × (st.n ≤ 16)
   pub small_range : (1 ≤ st.small) × (st.small ≤ 16)
   pub large_range : (1 ≤ st.large) × (st.large ≤ 16)
 
-fixed_at : (h g : ℕ) → 8 ≤ h → h ≤ 19 → Fixed (steps_of h g)
-unfolding steps_of
-fixed_at h g low high =
-    let b = mant_bits_lem h low high in
-    let r = scale_range h g low high in
-    let n = exponent_of h g in
+pub fixed : (st : Steps) → Fixed st
+fixed st =
+    let h = st.hebap in
+    let g = st.gk in
+    let b = mant_bits_lem h st.in_range.0 st.in_range.1 in
+    let r = scale_range h g st.in_range.0 st.in_range.1 in
+    let s = small_width (mant_bits h) g b.0 b.1 in
+    let l = large_width (mant_bits h) g b.0 b.1 in
+    let n : (1 ≤ st.n) × (st.n ≤ 16) = omega (arith, st.n_is, r) in
+    let v = value_is h g st.n n.0 n.1 st.remap st.part st.remap_is st.part_is in
     record {
-      n_is = refl;
-      value_is = value_at_lem h g n r.0 r.1;
-      unit_one = λ i. rw i (remap_by_lem h 1 (div binary32 f1 (power (exponent_of h 1))));
-      unit_large = unit_slope h g n r.0 r.1;
-      zero_is = value_at_lem h g n r.0 r.1 (pos 0);
-      below_is = value_at_lem h g n r.0 r.1 (negsuc 0);
-      whole_is = refl;
-      small_is = refl;
-      large_is = refl;
-      n_range = r;
-      small_range = small_width (mant_bits h) g b.0 b.1;
-      large_range = large_width (mant_bits h) g b.0 b.1;
+      n_is = st.n_is ∙ ap (λ (k : ℕ). k - 1) (sym st.large_is);
+      value_is = v;
+      unit_one = one_is h g st.n n.0 n.1 st.remap st.part st.remap_is st.part_is st.unit st.unit_is;
+      unit_large = slope_is h g st.n n.0 n.1 st.remap st.part st.remap_is st.part_is st.unit st.unit_is;
+      zero_is = st.zero_is ∙ v (pos 0);
+      below_is = st.below_is ∙ v (negsuc 0);
+      n_range = n;
+      small_range = omega (arith, st.small_is, s);
+      large_range = omega (arith, st.large_is, l);
     }
-
-pub fixed : (st : Steps) → IsSteps st → Fixed st
-fixed st i = subst Fixed (sym i.is) (fixed_at st.hebap st.gk i.low i.high)
-
-pub steps_are : (h g m l small : ℕ) (r : Remap) (s unit zero below whole : Float) → m ≡ mant_bits h → l ≡ large_bits m g → r ≡ remap_of h g → s ≡ power (l - 1)
-    → unit ≡ unit_by r (div binary32 f1 s) g → zero ≡ level_by r (div binary32 f1 s) (pos 0) → below ≡ level_by r (div binary32 f1 s) (negsuc 0)
-    → whole ≡ power (m - 1) → small ≡ small_bits m g
-    → record { hebap = h; gk = g; remap = r; n = l - 1; part = div binary32 f1 s; unit = unit; zero = zero; below = below; whole = whole; small = small; large = l } ≡ steps_of h g
-unfolding steps_of
-steps_are h g m l small r s unit zero below whole a b c d e f i j k = rw (e, f, i, j, k, c, d, b, a)

@@ -1,13 +1,11 @@
 -- How codes are found fast: no meaning of its own. The laws that join it to Quantise are in proofs/Fixed.antt.
-use Rattle.std.specs.Prelude.{◌≡◌, ℕ, ◌-◌, ◌≤◌, cond, ℤ, pos, negsuc, ◌==◌, Float}
+use Rattle.std.specs.Prelude.{ℕ, ◌-◌, cond, ℤ, pos, ◌==◌, Float}
 use Rattle.std.specs.Float.{binary32}
-use Rattle.std.specs.Float.Ieee.{of_int, sub, mul, div}
+use Rattle.std.specs.Float.Ieee.{of_int, sub, mul}
 use Rattle.tables.specs.Tables.{mant_bits}
-use Rattle.levels.specs.Codes.{small_bits, large_bits}
-use Rattle.levels.specs.Value.{f1, power}
-use Rattle.levels.specs.Work.{remap_of, remap_by}
+use Rattle.levels.specs.Codes.{large_bits}
+use Rattle.levels.specs.Work.{remap_by}
 use Rattle.levels.specs.declared.Remap.{Remap}
-use Rattle.quantiser.specs.declared.Steps.{Steps}
 use Rattle.quantiser.specs.Quantise.{f1e_9, max_f}
 
 -- ---- what a hebap and a gain fix, computed once for many components
@@ -22,26 +20,3 @@ level_by r p k = remap_by r (mul binary32 (of_int binary32 k) p)
 -- the step of the estimate: at Gk 1 the value of the level 1, else what the levels 1 and 0 differ by
 abbrev pub unit_by : Remap → Float → ℕ → Float
 unit_by r p g = cond (g == 1) (remap_by r p) (max_f (sub binary32 (level_by r p (pos 1)) (level_by r p (pos 0))) f1e_9)
-
-unfoldable pub steps_of : ℕ → ℕ → Steps
-steps_of h g =
-    let p = div binary32 f1 (power (exponent_of h g)) in
-    record {
-      hebap = h;
-      gk = g;
-      remap = remap_of h g;
-      n = exponent_of h g;
-      part = p;
-      unit = unit_by (remap_of h g) p g;
-      zero = level_by (remap_of h g) p (pos 0);
-      below = level_by (remap_of h g) p (negsuc 0);
-      whole = power (mant_bits h - 1);
-      small = small_bits (mant_bits h) g;
-      large = large_bits (mant_bits h) g;
-    }
-
--- the steps are those of the hebap and the gain that they name
-pub record IsSteps (st : Steps) : Type 0 where
-  pub low : 8 ≤ st.hebap
-  pub high : st.hebap ≤ 19
-  pub is : st ≡ steps_of st.hebap st.gk

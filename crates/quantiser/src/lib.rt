@@ -2,13 +2,16 @@
 // are multiplied by 1 / 2^n where the Rust divides by 2^n, which is proved to give the same f32.
 #![tactic(auto)]
 
-ghost use Rattle.std.specs.Prelude.{◌≡◌, ◌≤◌, length};
+ghost use Rattle.std.specs.Prelude.{◌≡◌, ◌-◌, ◌≤◌, length, pos, negsuc};
+ghost use Rattle.std.specs.Coded.{Coded-set};
+ghost use Rattle.std.specs.Float.{binary32};
+ghost use Rattle.std.specs.Float.Ieee.{div};
 ghost use Rattle.quantiser.specs.Quantise.{picked, allowed, quantised, bin_values, codes_bits, error_from, bin_picked, quantised_bin};
-ghost use Rattle.quantiser.specs.Work.{unit_by, steps_of, IsSteps};
+ghost use Rattle.quantiser.specs.Work.{exponent_of, level_by, unit_by};
 ghost use Rattle.tables.specs.Tables.{mant_bits};
-ghost use Rattle.levels.specs.Codes.{code_bits};
-ghost use Rattle.levels.specs.Work.{word_of};
-ghost use Rattle.levels.specs.Value.{f0};
+ghost use Rattle.levels.specs.Codes.{small_bits, large_bits, code_bits};
+ghost use Rattle.levels.specs.Work.{remap_of, word_of};
+ghost use Rattle.levels.specs.Value.{f0, f1, power};
 
 use answers::Refusal;
 use levels::{Code, Level, Remap};
@@ -57,6 +60,16 @@ pub struct Steps {
     pub whole: f32,
     pub small: u32,
     pub large: u32,
+    pub ghost in_range: { (8 ≤ hebap) × (hebap ≤ 19) },
+    pub ghost remap_is: { remap ≡ remap_of hebap gk } by { Coded-set remap-code remap (remap_of hebap gk) },
+    pub ghost n_is: { n ≡ exponent_of hebap gk },
+    pub ghost part_is: { part ≡ div binary32 f1 (power n) },
+    pub ghost unit_is: { unit ≡ unit_by remap part gk },
+    pub ghost zero_is: { zero ≡ level_by remap part (pos 0) },
+    pub ghost below_is: { below ≡ level_by remap part (negsuc 0) },
+    pub ghost whole_is: { whole ≡ power (mant_bits hebap - 1) },
+    pub ghost small_is: { small ≡ small_bits (mant_bits hebap) gk },
+    pub ghost large_is: { large ≡ large_bits (mant_bits hebap) gk },
 }
 
 // A code as one number, its tag with it, and how many bits that has.
@@ -87,7 +100,7 @@ fn unit(remap: Remap, part: f32, gk: u8) -> f32
 
 pub fn steps_of(hebap: u8, gk: u8) -> Steps
     requires { (8 ≤ hebap) × (hebap ≤ 19) }
-    ensures { result ≡ steps_of hebap gk }
+    ensures { (result.hebap ≡ hebap) × (result.gk ≡ gk) }
 {
     let m = levels::mant(hebap);
     let large = levels::large_bits(m, gk);
@@ -111,7 +124,6 @@ pub fn steps_of(hebap: u8, gk: u8) -> Steps
 
 // The same code as one number, its tag with it.
 pub fn word(st: Steps, x: f32) -> CodeWord
-    requires { IsSteps st }
     ensures bits_value { result.bits ≡ word_of (mant_bits st.hebap) st.gk (picked st.hebap st.gk x).0 }
     ensures width_value { result.width ≡ code_bits (mant_bits st.hebap) st.gk (picked st.hebap st.gk x).0 }
 {
@@ -181,17 +193,13 @@ fn fill(hebap: u8, gk: u8, x: &[f32], values: &mut [f32]) -> Sums
     let st = steps_of(hebap, gk);
     let mut bits: u32 = 0;
     let mut err: f32 = 0.0;
-    let mut j: usize = 0;
-    while j < x.len() {
-        let p = pick::pick(st, x[j]);
-        let code = p.code;
-        let level = p.level;
+    for (j, &component) in x.iter().enumerate() {
+        let CodeLevel { code, level } = pick::pick(st, component);
         let y = levels::value_of(level);
-        let d = y - x[j];
+        let d = y - component;
         bits += levels::code_bits(hebap, gk, code);
         err += d * d;
         values[j] = y;
-        j += 1;
     }
     Sums { bits, err }
 }

@@ -2,7 +2,6 @@
 ghost use Rattle.std.specs.Prelude.{◌≡◌, ◌-◌, ◌^◌, ◌<◌, ◌≤◌, ◌≢◌};
 ghost use Rattle.std.specs.Int.Signed.{mag};
 ghost use Rattle.quantiser.specs.Quantise.{best_one, est_large, best_large, small_of, is_small, large_level, picked, code_level};
-ghost use Rattle.quantiser.specs.Work.{IsSteps};
 ghost use Rattle.tables.specs.Tables.{mant_bits};
 
 use super::{CodeLevel, Steps, integers, probes, round};
@@ -10,8 +9,7 @@ use levels::{Code, Level};
 
 // Gk 1: the level whose value is nearest, of the three about the estimate.
 pub fn search_one(st: Steps, x: f32) -> i64
-    requires steps { IsSteps st }
-    requires gk_value { st.gk ≡ 1 }
+    requires { st.gk ≡ 1 }
     ensures { result ≡ best_one st.hebap st.n x }
 {
     let est = if st.unit > 0.0 {
@@ -31,8 +29,7 @@ pub fn search_one(st: Steps, x: f32) -> i64
 
 // Gk 2 and 4, a large code: the level 0 or -1, and as many steps on as x lies from its value.
 pub fn estimate_large(st: Steps, x: f32) -> i64
-    requires steps { IsSteps st }
-    requires gk_nonzero { st.gk ≢ 1 }
+    requires { st.gk ≢ 1 }
     ensures { result ≡ est_large st.hebap st.gk st.n x }
 {
     if x >= 0.0 {
@@ -44,8 +41,7 @@ pub fn estimate_large(st: Steps, x: f32) -> i64
 }
 
 pub fn search_large(st: Steps, x: f32) -> i64
-    requires steps { IsSteps st }
-    requires gk_nonzero { st.gk ≢ 1 }
+    requires { st.gk ≢ 1 }
     ensures { result ≡ best_large st.hebap st.gk st.n x }
 {
     let est = estimate_large(st, x);
@@ -61,7 +57,6 @@ pub fn search_large(st: Steps, x: f32) -> i64
 
 // Gk 2 and 4, a small code.
 pub fn small_level(st: Steps, x: f32) -> i64
-    requires { IsSteps st }
     ensures { result ≡ small_of (mant_bits st.hebap - 1) x }
 {
     round::round_half_away(x * st.whole)
@@ -79,8 +74,7 @@ pub fn is_small(b: u32, s: i64) -> bool
 
 // The level k as a large code.
 pub fn large_code(st: Steps, k: i64) -> CodeLevel
-    requires steps { IsSteps st }
-    requires k_bound { mag k < 2 ^ st.n }
+    requires { mag k < 2 ^ st.n }
     ensures { result ≡ code_level (large_level st.hebap st.gk st.large k) }
 {
     CodeLevel {
@@ -92,7 +86,6 @@ pub fn large_code(st: Steps, k: i64) -> CodeLevel
 // The code for x and its level.
 #[tactic(auto, using(tables::proofs::Rules::mant_bits_lem))]
 pub fn pick(st: Steps, x: f32) -> CodeLevel
-    requires { IsSteps st }
     ensures { result ≡ code_level (picked st.hebap st.gk x) }
 {
     if st.gk == 1 {

@@ -2,7 +2,7 @@
 ghost use Rattle.std.specs.Prelude.{◌≡◌, ◌^◌, ◌<◌};
 ghost use Rattle.std.specs.Int.Signed.{mag};
 ghost use Rattle.quantiser.specs.Quantise.{probed, best_of};
-ghost use Rattle.quantiser.specs.Work.{level_by, IsSteps};
+ghost use Rattle.quantiser.specs.Work.{level_by};
 
 use super::{Best, Steps, integers, reals};
 use levels::Remap;
@@ -16,8 +16,7 @@ pub fn value(remap: Remap, part: f32, k: i64) -> f32
 }
 
 pub fn probe(st: Steps, lo: i64, hi: i64, x: f32, z: i64, best: Best) -> Best
-    requires steps { IsSteps st }
-    requires lo_bound { (mag lo < 2 ^ 24) × (mag hi < 2 ^ 24) }
+    requires { (mag lo < 2 ^ 24) × (mag hi < 2 ^ 24) }
     ensures { result ≡ probed st.hebap st.gk st.n lo hi x z best }
 {
     let k = integers::clamp(z, lo, hi);
@@ -27,8 +26,7 @@ pub fn probe(st: Steps, lo: i64, hi: i64, x: f32, z: i64, best: Best) -> Best
 
 // The first of est - 1, est and est + 1 with the least error.
 pub fn search(st: Steps, lo: i64, hi: i64, x: f32, start: i64, est: i64) -> i64
-    requires steps { IsSteps st }
-    requires lo_bound { (mag lo < 2 ^ 24) × (mag hi < 2 ^ 24) × (mag start < 2 ^ 24) × (mag est < 2 ^ 40) }
+    requires { (mag lo < 2 ^ 24) × (mag hi < 2 ^ 24) × (mag start < 2 ^ 24) × (mag est < 2 ^ 40) }
     ensures { result ≡ best_of st.hebap st.gk st.n lo hi x start est }
 {
     let first = Best {

@@ -4,4 +4,3 @@ pub mod Bins
 pub mod Causes
 pub mod Whole
 pub mod Reach
-pub mod Copies

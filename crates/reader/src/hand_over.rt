@@ -1,39 +1,6 @@
-// Copying to the outputs, once the whole field has been read. A function a type, since the language has no generic ones.
+// Copying to the outputs, once the whole field has been read.
 ghost use Rattle.std.specs.Prelude.{◌≡◌, ◌-◌, ◌*◌, ◌≤◌, length, take, drop};
 ghost use Rattle.bits.specs.Bits.{splice};
-
-pub fn copy_values(from: &[f32], to: &mut [f32], a: usize, b: usize)
-    requires { (a ≤ b) × (b ≤ length from.now) × (b ≤ length to.old) }
-    ensures { to.new ≡ splice to.old a (take (b - a) (drop a from.now)) }
-{
-    let mut i = a;
-    while i < b {
-        to[i] = from[i];
-        i += 1;
-    }
-}
-
-pub fn copy_exact(from: &[i32], to: &mut [i32], a: usize, b: usize)
-    requires { (a ≤ b) × (b ≤ length from.now) × (b ≤ length to.old) }
-    ensures { to.new ≡ splice to.old a (take (b - a) (drop a from.now)) }
-{
-    let mut i = a;
-    while i < b {
-        to[i] = from[i];
-        i += 1;
-    }
-}
-
-pub fn copy_indices(from: &[u16], to: &mut [u16], a: usize, b: usize)
-    requires { (a ≤ b) × (b ≤ length from.now) × (b ≤ length to.old) }
-    ensures { to.new ≡ splice to.old a (take (b - a) (drop a from.now)) }
-{
-    let mut i = a;
-    while i < b {
-        to[i] = from[i];
-        i += 1;
-    }
-}
 
 // Copies the bins start to end - 1 from the scratch buffers v, e and x to the same places of the outputs.
 pub fn hand_out(
@@ -53,7 +20,9 @@ pub fn hand_out(
     ensures exact_after { exact.new ≡ splice exact.old (6 * start) (take (6 * end - 6 * start) (drop (6 * start) e.now)) }
     ensures indices_after { indices.new ≡ splice indices.old start (take (end - start) (drop start x.now)) }
 {
-    copy_values(v, values, 6 * start, 6 * end);
-    copy_exact(e, exact, 6 * start, 6 * end);
-    copy_indices(x, indices, start, end);
+    let a = 6 * start;
+    let b = 6 * end;
+    values[a..b].copy_from_slice(&v[a..b]);
+    exact[a..b].copy_from_slice(&e[a..b]);
+    indices[start..end].copy_from_slice(&x[start..end]);
 }

@@ -1,27 +1,25 @@
 -- What the loops write, one turn at a time: gain bits, group words, the codes of a bin, the bins. Assumes nothing.
-use Prim.Native.Nat.{ℕ, zero, suc, ◌+◌, ◌^◌, ◌≤◌, ◌<◌}
+use Prim.Native.Nat.{ℕ, zero, suc, ◌+◌, ◌^◌, ◌≤◌, ◌<◌, min}
 use mathlib.Core.Path.{◌≡◌, refl, sym, ap, ◌∙◌}
 use mathlib.Core.Bool.{Bool, true, false, cond}
 use mathlib.Core.List.{List, [], ◌∷◌, ◌++◌, append-nil}
 use native.Mathlib.Numerals.{add-one}
 use native.Mathlib.Omega.{arith}
-use lib.Dec.{eqb}
 use lib.Ieee.{Float, nan, inf, lt}
 use lib.Pow.{pow_mono}
 use lib.ListN.{length, get_or, drop, replicate, drop_of_length-le}
-use lib.Seq.{drop-cons, drop-drop}
+use lib.Seq.{drop-cons}
 use Rattle.bits.specs.Bits.{bits_n}
 use Rattle.bits.specs.Format.{number, each_enc}
 use Rattle.tables.specs.Tables.{vq_bits, book}
 use Rattle.tables.proofs.Rules.{vq_most}
-use Rattle.gains.specs.Gains.{group_of}
 use Rattle.books.specs.Books.{distance_of, search_from, nearest_in, search_of}
 use Rattle.channel.specs.Row.{six_of}
 use Rattle.channel.specs.Field.{gain_code, packed, group_words, gain_words, lenient, bin_at}
 use Rattle.channel.proofs.Over.{over_next, over_end}
 use Rattle.quantiser.specs.Quantise.{picked}
 use Rattle.writer.specs.Written.{codes_of, written_at}
-use Rattle.writer.specs.Work.{bin_enc, bins_enc, gains_enc, code_from}
+use Rattle.writer.specs.Work.{bin_enc, bins_enc, gains_enc}
 
 -- a list from its place i on: the element there, and the rest
 from_here : {A : Type 0} (l : List A) (i : ℕ) (d : A) → i < length l → drop i l ≡ get_or l i d ∷ drop (i + 1) l
@@ -59,47 +57,24 @@ module _ (mode : ℕ) (m : (1 ≤ mode) × (mode ≤ 2)) where
   pub bits_end : (gs : List ℕ) (j : ℕ) → length gs ≤ j → gains_enc mode (drop j gs) ≡ []
   bits_end gs j h = ap (gains_enc mode) (drop_of_length-le gs h) ∙ bits_none
 
-pub code_small : (r g mode : ℕ) → r ≡ gain_code g mode → r ≤ 2
-code_small r g mode e = rw e (go (eqb g 1) (eqb mode 3) (eqb g 2))
-  where
-    go : (a b c : Bool) → cond a 0 (cond b (cond c 1 2) 1) ≤ 2
-    go true b c = omega arith
-    go false true true = omega arith
-    go false true false = omega arith
-    go false false c = omega arith
-
-pub from_small : (r : ℕ) (gs : List ℕ) → r ≡ code_from gs → r ≤ 2
-from_small r [] e = omega arith
-from_small r (g ∷ gs) e = code_small r g 3 e
-
--- the word of gains, by their codes
-packed_codes : (gs : List ℕ) → 1 ≤ length gs → group_of (code_from gs) (code_from (drop 1 gs)) (code_from (drop 2 gs)) ≡ packed gs
-packed_codes [] h = absurd (omega arith)
-packed_codes (x ∷ []) h = refl
-packed_codes (x ∷ y ∷ []) h = refl
-packed_codes (x ∷ y ∷ z ∷ gs) h = refl
-
-pub word_is : (gs : List ℕ) (i a b c : ℕ) → i < length gs → a ≡ code_from (drop i gs) → b ≡ code_from (drop (i + 1) gs) → c ≡ code_from (drop (i + 2) gs)
-    → group_of a b c ≡ packed (drop i gs)
-word_is gs i a b c h ea eb ec =
-    let l = ap length (from_here gs i 0 h) in
-    rw (ea, eb, ec, ← drop-drop 1 i gs, ← drop-drop 2 i gs) (packed_codes (drop i gs) (omega arith))
-
-words_first : (gs : List ℕ) → 1 ≤ length gs → gains_enc 3 gs ≡ bits_n 5 (packed gs) ++ gains_enc 3 (drop 3 gs)
+-- a group, the first three gains or all that are left, and the gains behind it
+group_first : (group rest : List ℕ) → length group ≡ min 3 (length (group ++ rest)) → 0 < length (group ++ rest) → gains_enc 3 (group ++ rest) ≡ bits_n 5 (packed group) ++ gains_enc 3 rest
 unfolding gain_words group_words number
-words_first [] h = absurd (omega arith)
-words_first (x ∷ []) h = sym (append-nil (bits_n 5 (packed (x ∷ []))))
-words_first (x ∷ y ∷ []) h = sym (append-nil (bits_n 5 (packed (x ∷ y ∷ []))))
-words_first (x ∷ y ∷ z ∷ gs) h = refl
+group_first [] rest l h = absurd (omega arith)
+group_first (x ∷ []) [] l h = sym (append-nil (bits_n 5 (packed (x ∷ []))))
+group_first (x ∷ []) (y ∷ rest) l h = absurd (omega arith)
+group_first (x ∷ y ∷ []) [] l h = sym (append-nil (bits_n 5 (packed (x ∷ y ∷ []))))
+group_first (x ∷ y ∷ []) (z ∷ rest) l h = absurd (omega arith)
+group_first (x ∷ y ∷ z ∷ []) rest l h = refl
+group_first (x ∷ y ∷ z ∷ u ∷ group) rest l h = absurd (omega arith)
 
-pub words_next : (gs : List ℕ) (i w : ℕ) → w ≡ packed (drop i gs) → i < length gs → gains_enc 3 (drop i gs) ≡ bits_n 5 w ++ gains_enc 3 (drop (i + 3) gs)
-words_next gs i w f h =
-    let e = ap length (from_here gs i 0 h) in
-    words_first (drop i gs) (omega arith) ∙ rw (f, drop-drop 3 i gs)
+pub groups_next : (all group rest : List ℕ) (w : ℕ) → all ≡ group ++ rest → length group ≡ min 3 (length all) → 0 < length all → w ≡ packed group → gains_enc 3 all ≡ bits_n 5 w ++ gains_enc 3 rest
+groups_next all group rest w e l h ew = rw (e, ew) (group_first group rest (rw e at l) (rw e at h))
 
-pub words_end_lem : (gs : List ℕ) (i : ℕ) → length gs ≤ i → gains_enc 3 (drop i gs) ≡ []
+pub groups_end : (all : List ℕ) → length all ≡ 0 → gains_enc 3 all ≡ []
 unfolding gain_words group_words
-words_end_lem gs i h = ap (gains_enc 3) (drop_of_length-le gs h)
+groups_end [] e = refl
+groups_end (g ∷ gs) e = absurd (omega arith)
 
 -- ---- the codes of components
 abbrev pub codes_for : ℕ → ℕ → List Float → List Bool

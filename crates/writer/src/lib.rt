@@ -34,11 +34,9 @@ fn write_six(out: &mut [u8], p: BitPos, hebap: u8, gk: u8, x: &[f32]) -> BitPos
 {
     let st = quantiser::steps_of(hebap, gk);
     let mut q = p;
-    let mut j: usize = 0;
-    while j < x.len() {
-        let w = quantiser::word(st, x[j]);
+    for &component in x {
+        let w = quantiser::word(st, component);
         q = put(&mut *out, q, w.bits, w.width);
-        j += 1;
     }
     q
 }
@@ -47,16 +45,12 @@ fn write_six(out: &mut [u8], p: BitPos, hebap: u8, gk: u8, x: &[f32]) -> BitPos
 fn gain_code(gk: u8, mode: u8) -> u32
     ensures { result ≡ gain_code gk mode }
 {
-    if gk == 1 {
-        return 0;
+    match (mode, gk) {
+        (_, 1) => 0,
+        (3, 2) => 1,
+        (3, _) => 2,
+        _ => 1,
     }
-    if mode == 3 {
-        if gk == 2 {
-            return 1;
-        }
-        return 2;
-    }
-    1
 }
 
 // The gain words of mode 1 or 2, a bit for each gain, where there is room for them; the position behind them.
@@ -67,11 +61,8 @@ fn write_gain_bits(out: &mut [u8], p: BitPos, mode: u8, gains: &[u8]) -> BitPos
     ensures { Puts (gains_enc mode gains.now) p result out.old out.new }
 {
     let mut q = p;
-    let mut j: usize = 0;
-    while j < gains.len() {
-        let code = gain_code(gains[j], mode);
-        q = put(&mut *out, q, code, 1);
-        j += 1;
+    for &gk in gains {
+        q = put(&mut *out, q, gain_code(gk, mode), 1);
     }
     q
 }
@@ -80,37 +71,29 @@ fn write_gain_bits(out: &mut [u8], p: BitPos, mode: u8, gains: &[u8]) -> BitPos
 fn code_at(gains: &[u8], i: usize) -> u32
     ensures { result ≡ code_from (drop i gains.now) }
 {
-    if i < gains.len() {
-        return gain_code(gains[i], 3);
+    match gains.get(i) {
+        Some(&gk) => gain_code(gk, 3),
+        None => 0,
     }
-    0
 }
 
-// The word of up to three gains from the place i on.
-fn word_at(gains: &[u8], i: usize) -> u32
-    requires i_in_bounds { i < length gains.now }
-    requires gains_len_bound { length gains.now ≤ 256 }
-    ensures { result ≡ packed (drop i gains.now) }
+// The word of a group of up to three gains.
+fn word_of(group: &[u8]) -> u32
+    requires { 0 < length group.now }
+    ensures { result ≡ packed group.now }
 {
-    gains::pack(
-        code_at(gains, i),
-        code_at(gains, i + 1),
-        code_at(gains, i + 2),
-    )
+    gains::pack(code_at(group, 0), code_at(group, 1), code_at(group, 2))
 }
 
 // Mode 3: a word of five bits for three gains, where there is room for them; the position behind them.
 fn write_group_words(out: &mut [u8], p: BitPos, gains: &[u8]) -> BitPos
     requires bit_bound { p.bit < 8 }
-    requires gains_len_bound { length gains.now ≤ 256 }
     requires room { Room (gains_enc 3 gains.now) p out.old }
     ensures { Puts (gains_enc 3 gains.now) p result out.old out.new }
 {
     let mut q = p;
-    let mut i: usize = 0;
-    while i < gains.len() {
-        q = put(&mut *out, q, word_at(gains, i), 5);
-        i += 3;
+    for group in gains.chunks(3) {
+        q = put(&mut *out, q, word_of(group), 5);
     }
     q
 }
@@ -146,7 +129,6 @@ fn write_bin(out: &mut [u8], p: BitPos, mode: u8, hebap: u8, gk: u8, x: &[f32]) 
 fn write_gains(out: &mut [u8], p: BitPos, mode: u8, gains: &[u8]) -> BitPos
     requires mode_bound { mode ≤ 3 }
     requires bit_bound { p.bit < 8 }
-    requires gains_len_bound { length gains.now ≤ 256 }
     requires room { Room (gains_enc mode gains.now) p out.old }
     ensures { Puts (gains_enc mode gains.now) p result out.old out.new }
 {
@@ -176,21 +158,18 @@ fn write_bins(
 {
     let mut q = p;
     let mut n: usize = 0;
-    let mut bin = start;
-    while bin < end {
+    for bin in start..end {
         let hebap = row[bin];
         let a = 6 * bin;
-        let b = a + 6;
         q = write_bin(
             &mut *out,
             q,
             mode,
             hebap,
             channel::gain_at(gains, n),
-            &x[a..b],
+            &x[a..a + 6],
         );
         n += channel::gains_used(mode, hebap);
-        bin += 1;
     }
     q
 }

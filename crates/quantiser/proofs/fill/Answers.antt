@@ -2,30 +2,20 @@
 use Rattle.std.proofs.Common.{sym, ◌∙◌, arith}
 use lib.Ieee.{nan}
 use Rattle.quantiser.proofs.Bins.{done_none, done_all, done_more, bits_most}
-use Rattle.quantiser.proofs.Fixed.{steps_is, steps_names}
 use Rattle.quantiser.proofs.fill.Goals as goal
 
 pub loop-j-init : goal.loop-j-init
 loop-j-init c = done_none c.args.hebap c.args.gk c.args.x.now c.args.values.now (c.requires.x_len.1 ∙ sym c.requires.x_len.0)
 
-pub pick-p-requires : goal.pick-p-requires
-pick-p-requires c = steps_is c.args.hebap c.args.gk _ c.steps_of-st.ensures c.requires.le_hebap.0 c.requires.le_hebap.1
-
 pub loop-j-preserved : goal.loop-j-preserved
-loop-j-preserved c = let n = steps_names c.args.hebap c.args.gk _ c.steps_of-st.ensures in
+loop-j-preserved c = let n = c.steps_of-st.ensures in
     done_more c.args.hebap c.args.gk c.args.x.now c.loop-j.values c.loop-j.bits c.loop-j.err c.loop-j.j nan c.loop-j.invariant (omega arith)
-    c.pick-p.result c.value_of-y.result c.code_bits-bits.result (rw (n.0, n.1) at c.pick-p.ensures) c.value_of-y.ensures c.code_bits-bits.ensures
+    c.pick-code.result c.value_of-y.result c.code_bits-bits.result (rw (n.0, n.1) at c.pick-code.ensures) c.value_of-y.ensures c.code_bits-bits.ensures
 
 pub overflow_add-bits : goal.overflow_add-bits
 overflow_add-bits c = let most = bits_most c.args.hebap c.args.gk c.requires.le_hebap.0 c.requires.le_hebap.1 c.args.x.now in
     let sum = (loop-j-preserved c).bits in
     record { fits = omega arith }
-
-pub bounds-values-j : goal.bounds-values-j
-bounds-values-j c = let i = c.loop-j.invariant in let o = i.long in omega arith
-
-pub loop-j-smaller : goal.loop-j-smaller
-loop-j-smaller c = omega arith
 
 pub shape_of-values : goal.shape_of-values
 shape_of-values c = c.loop-j.invariant.long ∙ c.requires.x_len.0 ∙ sym c.requires.x_len.1

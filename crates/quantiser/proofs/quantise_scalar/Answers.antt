@@ -3,7 +3,6 @@ use Rattle.std.proofs.Common.{◌≤◌, sym, ◌∙◌}
 use borrow.Author.Tests.{not-true, not-false}
 use Rattle.levels.specs.Component.{too_large}
 use Rattle.quantiser.specs.Quantise.{quantised_up_to}
-use Rattle.quantiser.proofs.Fixed.{steps_is, steps_names}
 use Rattle.quantiser.proofs.Ints.{allowed_range}
 use Rattle.quantiser.proofs.quantise_scalar.Goals as goal
 use Rattle.quantiser.proofs.quantise_scalar.Goals.{Else-not-allows}
@@ -23,15 +22,9 @@ returns-then-not-in_range c =
 pub steps_of-requires : goal.steps_of-requires
 steps_of-requires c = hebap_range (goal.at.steps_of-requires c).Else-not-allows
 
-pub pick-requires : goal.pick-requires
-pick-requires c =
-    let a = c.args in
-    let r = hebap_range (goal.at.pick-requires c).Else-not-allows in
-    steps_is a.hebap a.gk _ c.steps_of.ensures r.0 r.1
-
 pub returns : goal.returns
 unfolding quantised_up_to
 returns c =
-    let n = steps_names c.args.hebap c.args.gk _ c.steps_of.ensures in
+    let n = c.steps_of.ensures in
     let e = rw (n.0, n.1) at c.pick.ensures in
     rw (e, sym c.allows.ensures ∙ c.if-not-allows.false, not-true (too_large c.args.x) (sym c.in_range.ensures ∙ c.if-not-in_range.false))

@@ -1,7 +1,7 @@
 -- `quantiser::steps_of` meets its contract. Assumes nothing.
 use Rattle.std.proofs.Common.{◌-◌, ◌≤◌, arith, lit<}
 use Rattle.tables.proofs.Rules.{mant_bits_lem}
-use Rattle.quantiser.proofs.Fixed.{scale_range, steps_are}
+use Rattle.quantiser.proofs.Fixed.{scale_range}
 use Rattle.quantiser.proofs.steps_of.Goals as goal
 use Rattle.quantiser.proofs.steps_of.Goals.{After-large_bits-large, After-mant-m}
 
@@ -35,10 +35,3 @@ scale-requires c = omega (arith, bits (goal.at.scale-requires c).After-mant-m)
 
 pub small_bits-requires : goal.small_bits-requires
 small_bits-requires c = (bits (goal.at.small_bits-requires c).After-mant-m).0
-
-pub returns : goal.returns
-returns c = let a = c.args in
-    steps_are a.hebap a.gk c.mant-m.result c.large_bits-large.result c.small_bits.result c.remap_of-remap.result c.scale-part.result
-    c.unit.result c.value.result c.value-2.result c.scale.result
-    c.mant-m.ensures c.large_bits-large.ensures c.remap_of-remap.ensures c.scale-part.ensures c.unit.ensures c.value.ensures c.value-2.ensures
-    c.scale.ensures c.small_bits.ensures

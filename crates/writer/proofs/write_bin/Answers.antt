@@ -1,7 +1,6 @@
 -- `writer::write_bin` meets its contract. Assumes nothing.
 use Rattle.channel.proofs.Codings.{coded_bin}
 use mathlib.Core.Path.{sym, ◌∙◌}
-use native.Mathlib.Omega.{arith}
 use Rattle.gains.specs.declared.Coding.{Coding}
 use Rattle.writer.proofs.Turns.{puts_none}
 use Rattle.writer.proofs.write_bin.Goals as goal
@@ -23,7 +22,7 @@ write_six-requires-in-Adaptive c = let a = c.args in
 pub returns-in-Nothing : goal.returns-in-Nothing
 returns-in-Nothing c = let a = c.args in
     let b = coded_bin c.args.mode c.args.hebap c.args.gk Coding.Nothing c.requires.hebap_bound (sym c.coding_of.ensures ∙ c.in-Nothing.is) in
-    rw b.1 (puts_none a.out.now a.p (λ i j. omega (arith, c.slice_known-1.given i)) c.requires.bit_bound)
+    rw b.1 (puts_none a.out.now a.p (λ i j. (c.type_inv.out i).fits) c.requires.bit_bound)
 
 pub returns-in-Book : goal.returns-in-Book
 returns-in-Book c = let b = coded_bin c.args.mode c.args.hebap c.args.gk Coding.Book c.requires.hebap_bound (sym c.coding_of.ensures ∙ c.in-Book.is) in

@@ -1,5 +1,4 @@
 -- `writer::write_bins` meets its contract. Assumes nothing.
-use Prim.Native.Nat.{◌-◌, ◌≤◌}
 use mathlib.Core.Path.{◌≡◌}
 use Rattle.channel.specs.Row.{active_count}
 use Rattle.writer.specs.Work.{bins_enc}
@@ -7,8 +6,4 @@ use Rattle.writer.proofs.Turns.{Left}
 use Rattle.writer.proofs.write_bins.Given as goal
 
 abbrev pub invariant-loop-bin : goal.invariant-loop-bin
-invariant-loop-bin l = (l.start ≤ l.bin) × (l.bin ≤ l.end) × (l.n ≤ l.bin) × Left l.initial.out l.out l.initial.q l.q (bins_enc l.mode l.gains l.row l.x l.start l.end l.bin) (bins_enc l.mode l.gains l.row l.x l.start l.end l.start)
-    × (l.n ≡ active_count l.mode l.row l.start l.bin)
-
-abbrev pub decreases-loop-bin : goal.decreases-loop-bin
-decreases-loop-bin l = l.end - l.bin
+invariant-loop-bin l = (l.n ≡ active_count l.mode l.row l.start l.bin) × Left l.initial.out l.out l.initial.q l.q (bins_enc l.mode l.gains l.row l.x l.start l.end l.bin) (bins_enc l.mode l.gains l.row l.x l.start l.end l.start)

@@ -9,14 +9,14 @@ use Rattle.writer.proofs.write_gains.Goals as goal
 pub write_group_words-requires : goal.write_group_words-requires
 write_group_words-requires c = let a = c.args in
     let e : a.mode ≡ 3 = omega arith in
-    record { bit_bound = c.requires.bit_bound; gains_len_bound = c.requires.gains_len_bound; room = subst (λ m. Room (gains_enc m a.gains.now) a.p a.out.now) e c.requires.room }
+    record { bit_bound = c.requires.bit_bound; room = subst (λ m. Room (gains_enc m a.gains.now) a.p a.out.now) e c.requires.room }
 
 pub write_gain_bits-requires : goal.write_gain_bits-requires
 write_gain_bits-requires c = record { le_mode = (omega arith, omega arith); bit_bound = c.requires.bit_bound; room = c.requires.room }
 
 pub returns-in-0 : goal.returns-in-0
 returns-in-0 c = let a = c.args in
-    rw (words_zero a.mode a.gains.now (omega arith)) (puts_none a.out.now a.p (λ i j. omega (arith, c.slice_known-1.given i)) c.requires.bit_bound)
+    rw (words_zero a.mode a.gains.now (omega arith)) (puts_none a.out.now a.p (λ i j. (c.type_inv.out i).fits) c.requires.bit_bound)
 
 pub returns-in-3 : goal.returns-in-3
 returns-in-3 c = let a = c.args in

@@ -1,36 +1,30 @@
 -- `writer::write_group_words` meets its contract. Assumes nothing.
-use Prim.Native.Nat.{◌+◌}
-use native.Mathlib.Omega.{arith}
-use lib.ListN.{drop}
+use mathlib.Core.Path.{◌∙◌}
+use Rattle.std.specs.Slice.Iter.{chunks_rest}
 use Rattle.bits.specs.Bits.{bits_n}
 use Rattle.writer.specs.Work.{gains_enc}
-use Rattle.writer.proofs.Turns.{Next, left_all, left_room, left_next, left_none, puts_long}
-use Rattle.writer.proofs.Words.{words_next, words_end_lem}
+use Rattle.writer.proofs.Turns.{Next, left_all, left_room, left_next, left_none}
+use Rattle.writer.proofs.Words.{groups_next, groups_end}
 use Rattle.writer.proofs.write_group_words.Goals as goal
-use Rattle.writer.proofs.write_group_words.Goals.{After-word_at}
+use Rattle.writer.proofs.write_group_words.Goals.{After-word_of}
 
--- the word of a turn and the words behind it
-turn : (c : After-word_at)
-    → let g = c.args.gains.now in
-    Next (gains_enc 3 (drop c.loop-i.i g)) (bits_n 5 c.word_at.result) (gains_enc 3 (drop (c.loop-i.i + 3) g))
+-- the word of a group, before those of the groups behind it
+turn : (c : After-word_of) → Next (gains_enc 3 (chunks_rest c.loop-group.group-iterator)) (bits_n 5 c.word_of.result) (gains_enc 3 (chunks_rest c.next.new.self))
 turn c =
-    record {
-      is =
-          words_next c.args.gains.now c.loop-i.i c.word_at.result c.word_at.ensures (omega arith);
-    }
+    let h = c.in-Some.ensures.steps in
+    let n = rw c.loop-group.invariant.0 at h.1.1 in
+    record { is = groups_next _ c.in-Some.group.now _ c.word_of.result h.1.0 n h.1.2 c.word_of.ensures }
 
-pub loop-i-init : goal.loop-i-init
-loop-i-init c = let a = c.args in
-    left_all a.out.now a.p (gains_enc 3 a.gains.now) (λ i k. omega (arith, c.slice_known-1.given i)) c.requires.bit_bound
+pub loop-group-init : goal.loop-group-init
+loop-group-init c =
+    rw (c.into_iter-group-iterator.ensures.into_iter_gives, c.chunks-group-items.ensures.rest)
+    (c.chunks-group-items.ensures.size, left_all c.args.out.now c.args.p _ (λ i k. (c.type_inv.out i).fits) c.requires.bit_bound)
 
-pub put-q-requires : goal.put-q-requires
-put-q-requires c = record { n_bound = omega arith; room = left_room c.loop-i.invariant (turn c) c.requires.room }
+pub put-q-requires-clause-room : goal.put-q-requires-clause-room
+put-q-requires-clause-room c = left_room c.loop-group.invariant.1 (turn c) c.requires.room
 
-pub loop-i-preserved : goal.loop-i-preserved
-loop-i-preserved c = left_next c.loop-i.invariant (turn (goal.at.loop-i-preserved c).After-word_at) c.requires.room _ _ c.put-q.ensures
-
-pub shape_of-out : goal.shape_of-out
-shape_of-out c = puts_long c.loop-i.invariant.wrote
+pub loop-group-preserved : goal.loop-group-preserved
+loop-group-preserved c = (c.in-Some.ensures.steps.0 ∙ c.loop-group.invariant.0, left_next c.loop-group.invariant.1 (turn (goal.at.loop-group-preserved c).After-word_of) c.requires.room _ _ c.put-q.ensures)
 
 pub returns : goal.returns
-returns c = left_none c.loop-i.invariant (words_end_lem c.args.gains.now c.loop-i.i (omega arith))
+returns c = left_none c.loop-group.invariant.1 (groups_end _ c.in-None.ensures.steps.1.0)

@@ -6,7 +6,7 @@ use native.Mathlib.Nat.{le_refl}
 use native.Mathlib.Omega.{arith}
 use Rattle.gains.specs.Gains.{active}
 use Rattle.channel.specs.Bins.{sum_over}
-use Rattle.channel.proofs.Over.{one_small, sum_none, sum_end, sum_turn}
+use Rattle.channel.proofs.Over.{one_small, sum_none, sum_turn}
 use Rattle.channel.proofs.Rows.{count_most, count_start, rank_turn}
 use Rattle.planner.specs.Choice.{chosen_at}
 use Rattle.planner.proofs.Chosen.{chosen_is, chosen_most}
@@ -19,34 +19,18 @@ next : (c : After-bin_bits-bits) → let s = c.args in
 next c =
     let s = c.args in
     let v = c.loop-bin.invariant in
-    sum_turn (chosen_at s.mode s.gains.now s.row.now s.x.now s.start) s.start c.loop-bin.bin c.loop-bin.bits c.bin_bits-bits.result v.0 v.3
-    (chosen_is s.mode s.gains.now s.row.now s.x.now s.start c.loop-bin.bin c.loop-bin.n c.gain_at.result c.bin_bits-bits.result v.2 c.gain_at.ensures c.bin_bits-bits.ensures)
+    sum_turn (chosen_at s.mode s.gains.now s.row.now s.x.now s.start) s.start c.loop-bin.bin c.loop-bin.bits c.bin_bits-bits.result c.loop-bin.auto.bin v.1
+    (chosen_is s.mode s.gains.now s.row.now s.x.now s.start c.loop-bin.bin c.loop-bin.n c.gain_at.result c.bin_bits-bits.result v.0 c.gain_at.ensures c.bin_bits-bits.ensures)
 
 pub loop-bin-init : goal.loop-bin-init
-loop-bin-init c = let a = c.args in
-    (le_refl a.start, c.requires.row_ok.ordered, sym (count_start a.mode a.row.now a.start), sym (sum_none (chosen_at a.mode a.gains.now a.row.now a.x.now a.start) a.start a.start (le_refl a.start)))
+loop-bin-init c = let a = c.args in (sym (count_start a.mode a.row.now a.start), sym (sum_none (chosen_at a.mode a.gains.now a.row.now a.x.now a.start) a.start a.start (le_refl a.start)))
 
 pub overflow_add-bits : goal.overflow_add-bits
-overflow_add-bits c = let t = c.loop-bin-test.true in
-    let p = c.requires.row_ok.few in
-    let e = next c in
-    let m = chosen_most c.args.mode c.args.gains.now c.args.row.now c.args.x.now c.args.start (c.loop-bin.bin + 1) (omega arith) in
-    omega arith
+overflow_add-bits c = let s = c.args in omega (arith, next c, chosen_most s.mode s.gains.now s.row.now s.x.now s.start (c.loop-bin.bin + 1))
 
 pub overflow_add-n : goal.overflow_add-n
-overflow_add-n c = let t = c.loop-bin-test.true in
-    let m = count_most c.args.mode c.args.row.now c.args.start c.loop-bin.bin in
-    let v = c.loop-bin.invariant.2 in
-    let o = one_small (active c.args.mode (get_or c.args.row.now c.loop-bin.bin 0)) in
-    let e = c.gains_used-n.ensures in
-    let p = c.requires.row_ok.few in
-    omega arith
+overflow_add-n c = let s = c.args in omega (arith, count_most s.mode s.row.now s.start c.loop-bin.bin, c.gains_used-n.ensures, one_small (active s.mode (get_or s.row.now c.loop-bin.bin 0)))
 
 pub loop-bin-preserved : goal.loop-bin-preserved
 loop-bin-preserved c = let s = c.args in
-    let v = c.loop-bin.invariant in
-    let t = c.loop-bin-test.true in
-    (omega arith, omega arith, rank_turn s.mode s.row.now s.start c.loop-bin.bin c.loop-bin.n c.gains_used-n.result (active s.mode (get_or s.row.now c.loop-bin.bin 0)) v.0 v.2 refl c.gains_used-n.ensures, next (goal.at.loop-bin-preserved c).After-bin_bits-bits)
-
-pub returns : goal.returns
-returns c = let s = c.args in sum_end (chosen_at s.mode s.gains.now s.row.now s.x.now s.start) s.start c.loop-bin.bin s.end c.loop-bin.bits c.loop-bin.invariant.1 c.loop-bin-test.false c.loop-bin.invariant.3
+    (rank_turn s.mode s.row.now s.start c.loop-bin.bin c.loop-bin.n c.gains_used-n.result (active s.mode (get_or s.row.now c.loop-bin.bin 0)) c.loop-bin.auto.bin c.loop-bin.invariant.0 refl c.gains_used-n.ensures, next (goal.at.loop-bin-preserved c).After-bin_bits-bits)

@@ -1,5 +1,4 @@
 -- `planner::fit::chosen_bits` meets its contract. Assumes nothing.
-use Prim.Native.Nat.{◌≤◌, ◌-◌}
 use mathlib.Core.Path.{◌≡◌}
 use Rattle.channel.specs.Bins.{sum_over}
 use Rattle.channel.specs.Row.{active_count}
@@ -7,7 +6,4 @@ use Rattle.planner.specs.Choice.{chosen_at}
 use Rattle.planner.proofs.fit.chosen_bits.Given as goal
 
 abbrev pub invariant-loop-bin : goal.invariant-loop-bin
-invariant-loop-bin l = (l.start ≤ l.bin) × (l.bin ≤ l.end) × (l.n ≡ active_count l.mode l.row l.start l.bin) × (l.bits ≡ sum_over (chosen_at l.mode l.gains l.row l.x l.start) l.start l.bin)
-
-abbrev pub decreases-loop-bin : goal.decreases-loop-bin
-decreases-loop-bin l = l.end - l.bin
+invariant-loop-bin l = (l.n ≡ active_count l.mode l.row l.start l.bin) × (l.bits ≡ sum_over (chosen_at l.mode l.gains l.row l.x l.start) l.start l.bin)

@@ -1,12 +1,9 @@
 -- `planner::tally::best_mode` meets its contract. Assumes nothing.
-use Prim.Native.Nat.{◌≤◌, ◌-◌}
+use Prim.Native.Nat.{◌<◌, ◌-◌}
 use mathlib.Core.Path.{◌≡◌}
 use Rattle.planner.specs.Choice.{least_up_to}
 use Rattle.planner.specs.Work.{payload_in}
 use Rattle.planner.proofs.tally.best_mode.Given as goal
 
 abbrev pub invariant-loop-mode : goal.invariant-loop-mode
-invariant-loop-mode l = (l.best ≤ l.mode) × (l.mode ≤ l.top) × (l.best ≡ least_up_to (payload_in l.plain l.bits l.used) l.mode)
-
-abbrev pub decreases-loop-mode : goal.decreases-loop-mode
-decreases-loop-mode l = l.top - l.mode
+invariant-loop-mode l = (l.best < l.mode) × (l.best ≡ least_up_to (payload_in l.plain l.bits l.used) (l.mode - 1))

@@ -1,10 +1,6 @@
 -- `planner::tally::tally_bins` meets its contract. Assumes nothing.
-use Prim.Native.Nat.{◌≤◌, ◌-◌}
 use Rattle.planner.specs.Work.{mode_at, FourModes, TalliesOf}
 use Rattle.planner.proofs.tally.tally_bins.Given as goal
 
 abbrev pub invariant-loop-bin : goal.invariant-loop-bin
-invariant-loop-bin l = (l.start ≤ l.bin) × (l.bin ≤ l.end) × FourModes l.bits l.used l.kept × TalliesOf l.row l.x l.start l.bin l.plain (mode_at l.bits l.used l.kept)
-
-abbrev pub decreases-loop-bin : goal.decreases-loop-bin
-decreases-loop-bin l = l.end - l.bin
+invariant-loop-bin l = FourModes l.bits l.used l.kept × TalliesOf l.row l.x l.start l.bin l.plain (mode_at l.bits l.used l.kept)

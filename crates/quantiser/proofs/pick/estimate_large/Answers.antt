@@ -27,16 +27,16 @@ less_fits_rounded : (r : ℤ) (y : Float) → mag r < 2 ^ 63 → r ≡ round_awa
 less_fits_rounded r y f e = rw (held_is r f e, +ℤ_comm (negsuc 0) (round_away y)) (less_fits (round_away y) (let l = round_small y in omega arith))
 
 pub highest-requires : goal.highest-requires
-highest-requires c = (fixed c.args.st c.requires.steps).n_range.1
+highest-requires c = (fixed c.args.st).n_range.1
 
 pub returns-then-x : goal.returns-then-x
 returns-then-x c =
     let r = c.round_half_away-r in
     let hi = c.highest in
     let a = c.args in
-    let f = fixed a.st c.requires.steps in
+    let f = fixed a.st in
     held_is c.clamp.result c.clamp.type_inv
-    (above a.st.hebap a.st.gk a.st.n a.x a.st.unit a.st.zero (f.unit_large c.requires.gk_nonzero)
+    (above a.st.hebap a.st.gk a.st.n a.x a.st.unit a.st.zero (f.unit_large c.requires)
     (held r.result) (held hi.result) c.clamp.result c.if-x.true f.zero_is
     (held_is r.result r.type_inv r.ensures) (held_is hi.result hi.type_inv hi.ensures) c.clamp.ensures)
 
@@ -44,16 +44,16 @@ pub overflow_add-r : goal.overflow_add-r
 overflow_add-r c = let r = c.round_half_away-r-2 in less_fits_rounded r.result _ r.type_inv r.ensures
 
 pub lowest-requires : goal.lowest-requires
-lowest-requires c = (fixed c.args.st c.requires.steps).n_range.1
+lowest-requires c = (fixed c.args.st).n_range.1
 
 pub returns : goal.returns
 returns c =
     let r = c.round_half_away-r-2 in
     let lo = c.lowest in
     let a = c.args in
-    let f = fixed a.st c.requires.steps in
+    let f = fixed a.st in
     held_is c.clamp-2.result c.clamp-2.type_inv
-    (below a.st.hebap a.st.gk a.st.n a.x a.st.unit a.st.below (f.unit_large c.requires.gk_nonzero)
+    (below a.st.hebap a.st.gk a.st.n a.x a.st.unit a.st.below (f.unit_large c.requires)
     (held r.result) (held (negsuc 0 +ℤ held r.result)) (held lo.result) c.clamp-2.result c.if-x.false f.below_is
     (held_is r.result r.type_inv r.ensures) (to_z-of_z w64 (negsuc 0 +ℤ held r.result) (less_fits_rounded r.result _ r.type_inv r.ensures))
     (held_is lo.result lo.type_inv lo.ensures) c.clamp-2.ensures)

@@ -7,15 +7,15 @@ use Rattle.quantiser.proofs.Ints.{held, held_24}
 use Rattle.quantiser.proofs.pick.large_code.Goals as goal
 
 pub to_bits-requires : goal.to_bits-requires
-to_bits-requires c = let parts : (Fixed c.args.st) = (fixed c.args.st c.requires.steps) in
-    let f = parts in record { n_bound = f.large_range.1; v_bound = large_under c.args.st f c.args.k c.ranges.k.sfits refl c.requires.k_bound }
+to_bits-requires c = let parts : (Fixed c.args.st) = (fixed c.args.st) in
+    let f = parts in record { n_bound = f.large_range.1; v_bound = large_under c.args.st c.args.k c.ranges.k.sfits refl c.requires }
 
 pub value-requires : goal.value-requires
-value-requires c = let parts : (Fixed c.args.st) = (fixed c.args.st c.requires.steps) in
-    held_24 c.args.st.n c.args.k (parts).n_range.1 c.ranges.k.sfits refl c.requires.k_bound
+value-requires c = let parts : (Fixed c.args.st) = (fixed c.args.st) in
+    held_24 c.args.st.n c.args.k (parts).n_range.1 c.ranges.k.sfits refl c.requires
 
 pub returns : goal.returns
-returns c = let parts : (Fixed c.args.st) = (fixed c.args.st c.requires.steps) in
+returns c = let parts : (Fixed c.args.st) = (fixed c.args.st) in
     let k_is : (held c.args.k ≡ c.args.k) = (to_z-of_z w64 c.args.k c.ranges.k) in
     let f = parts in
     rw (c.to_bits.ensures, c.value.ensures ∙ f.value_is _, k_is, f.n_is)

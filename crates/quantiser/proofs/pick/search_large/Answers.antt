@@ -8,7 +8,7 @@ use Rattle.quantiser.proofs.pick.search_large.Goals as goal
 use Rattle.quantiser.proofs.pick.search_large.Goals.{Start}
 
 few : (s : Start) → s.args.st.n ≤ 16
-few s = (fixed s.args.st s.requires.steps).n_range.1
+few s = (fixed s.args.st).n_range.1
 
 pub lowest-requires : goal.lowest-requires
 lowest-requires c = few (goal.at.lowest-requires c).Start
@@ -23,7 +23,7 @@ search-requires c = let st = c.args.st in
     let hi = c.highest in
     let k = c.estimate_large-est in
     let est = held_24 n k.result (few (goal.at.search-requires c).Start) k.type_inv k.ensures (est_large_small st.hebap st.gk n c.args.x) in
-    record { steps = c.requires.steps; lo_bound = (held_24 n lo.result (few (goal.at.search-requires c).Start) lo.type_inv lo.ensures (bottom_under n), held_24 n hi.result (few (goal.at.search-requires c).Start) hi.type_inv hi.ensures (top_under n), est, omega arith) }
+    (held_24 n lo.result (few (goal.at.search-requires c).Start) lo.type_inv lo.ensures (bottom_under n), held_24 n hi.result (few (goal.at.search-requires c).Start) hi.type_inv hi.ensures (top_under n), est, omega arith)
 
 pub returns : goal.returns
 unfolding best_large

@@ -20,28 +20,28 @@ est_one_lem h n x unit r e c = rw (← e) (chosen (λ t. cond t (round_away (div
 est_is : (c : Joined-st) → to_z w64 c.if-st.est-bits ≡ est_one c.args.st.hebap c.args.st.n c.args.x
 est_is c =
     let st = c.args.st in
-    est_one_lem st.hebap st.n c.args.x st.unit (to_z w64 c.if-st.est-bits) ((fixed st c.requires.steps).unit_one c.requires.gk_value)
+    est_one_lem st.hebap st.n c.args.x st.unit (to_z w64 c.if-st.est-bits) ((fixed st).unit_one c.requires)
     (elim c.if-st.branch [
       | then-st h ↦ inl (h.if-st.true, ap (to_z w64) h.est-is-bits ∙ held_is h.round_half_away-est.result h.round_half_away-est.type_inv h.round_half_away-est.ensures)
       | else-st h ↦ inr (h.if-st.false, ap (to_z w64) h.est-is-bits)
     ])
 
 pub opposite-requires : goal.opposite-requires
-opposite-requires c = (fixed c.args.st c.requires.steps).n_range.1
+opposite-requires c = (fixed c.args.st).n_range.1
 
 pub highest-requires : goal.highest-requires
-highest-requires c = (fixed c.args.st c.requires.steps).n_range.1
+highest-requires c = (fixed c.args.st).n_range.1
 
-pub search-requires-clause-lo_bound : goal.search-requires-clause-lo_bound
-search-requires-clause-lo_bound c =
+pub search-requires : goal.search-requires
+search-requires c =
     let n = c.args.st.n in
-    let n16 = (fixed c.args.st c.requires.steps).n_range.1 in
+    let n16 = (fixed c.args.st).n_range.1 in
     let lo = c.opposite in
     let hi = c.highest in (
       held_24 n lo.result n16 lo.type_inv lo.ensures (opposite_under n),
       held_24 n hi.result n16 hi.type_inv hi.ensures (top_under n),
       lit< tt,
-      rw (est_is (goal.at.search-requires-clause-lo_bound c).Joined-st) (est_one_small c.args.st.hebap n c.args.x),
+      rw (est_is (goal.at.search-requires c).Joined-st) (est_one_small c.args.st.hebap n c.args.x),
     )
 
 pub returns : goal.returns
@@ -50,4 +50,4 @@ returns c =
     let lo = c.opposite in
     let hi = c.highest in
     held_is c.search.result c.search.type_inv
-    (rw (c.requires.gk_value, est_is (goal.at.returns c).Joined-st, held_is lo.result lo.type_inv lo.ensures, held_is hi.result hi.type_inv hi.ensures) at c.search.ensures)
+    (rw (c.requires, est_is (goal.at.returns c).Joined-st, held_is lo.result lo.type_inv lo.ensures, held_is hi.result hi.type_inv hi.ensures) at c.search.ensures)

@@ -3,12 +3,10 @@ use Rattle.std.proofs.Common.{ap, ◌∙◌}
 use lib.Ieee.{Float, binary32, mul}
 use Rattle.quantiser.specs.Quantise.{small_of}
 use Rattle.quantiser.specs.Round.{round_away}
-use Rattle.quantiser.proofs.Fixed.{fixed}
 use Rattle.quantiser.proofs.Ints.{held_is}
 use Rattle.quantiser.proofs.pick.small_level.Goals as goal
 
 pub returns : goal.returns
 unfolding small_of
 returns c = let r = c.round_half_away in
-    let f = fixed c.args.st c.requires in
-    held_is r.result r.type_inv (r.ensures ∙ ap (λ (w : Float). round_away (mul binary32 c.args.x w)) f.whole_is)
+    held_is r.result r.type_inv (r.ensures ∙ ap (λ (w : Float). round_away (mul binary32 c.args.x w)) c.args.st.whole_is)

@@ -15,10 +15,10 @@ k_is c =
     (rw (to_z-of_z w64 c.args.lo c.ranges.lo, to_z-of_z w64 c.args.hi c.ranges.hi, to_z-of_z w64 c.args.z c.ranges.z) at c.clamp-k.ensures)
 
 value_is : (c : After-abs-e) → let st = c.args.st in c.value.result ≡ value_at st.hebap st.gk st.n (held c.clamp-k.result)
-value_is c = c.value.ensures ∙ (fixed c.args.st c.requires.steps).value_is _
+value_is c = c.value.ensures ∙ (fixed c.args.st).value_is _
 
 pub value-requires : goal.value-requires
-value-requires c = rw (k_is (goal.at.value-requires c).After-clamp-k) (clamp_small c.args.lo c.args.hi (2 ^ 24) c.requires.lo_bound.0 c.requires.lo_bound.1 c.args.z)
+value-requires c = rw (k_is (goal.at.value-requires c).After-clamp-k) (clamp_small c.args.lo c.args.hi (2 ^ 24) c.requires.0 c.requires.1 c.args.z)
 
 pub returns-then-e-best : goal.returns-then-e-best
 returns-then-e-best c =
