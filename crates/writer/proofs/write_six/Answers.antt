@@ -11,7 +11,6 @@ use Rattle.levels.specs.Codes.{code_bits}
 use Rattle.levels.specs.Work.{word_of}
 use Rattle.quantiser.specs.Quantise.{picked}
 use Rattle.quantiser.proofs.Facts.{picked_accepted}
-use Rattle.quantiser.proofs.Fixed.{steps_is, steps_names}
 use Rattle.writer.proofs.Turns.{Next, left_all, left_room, left_next, left_none, word_bits_lem, word_width}
 use Rattle.writer.proofs.Words.{codes_for, codes_next, codes_end}
 use Rattle.writer.proofs.write_six.Goals as goal
@@ -20,15 +19,12 @@ use Rattle.writer.proofs.write_six.Goals.{After-word-w}
 pub loop-component-init : goal.loop-component-init
 loop-component-init c = left_all c.args.out.now c.args.p _ (λ i k. (c.type_inv.out i).fits) c.requires.bit_bound
 
-pub word-w-requires : goal.word-w-requires
-word-w-requires c = steps_is c.args.hebap c.args.gk _ c.steps_of-st.ensures c.requires.le_hebap.0 c.requires.le_hebap.1
-
 -- the word that was made is that of the quantiser's code
 word_is : (c : After-word-w) → let a = c.args in
     let code = (picked a.hebap a.gk (get_or a.x.now c.loop-component.component-index nan)).0 in
     (c.word-w.result.bits ≡ word_of (mant_bits a.hebap) a.gk code) × (c.word-w.result.width ≡ code_bits (mant_bits a.hebap) a.gk code)
 word_is c =
-    let n = steps_names c.args.hebap c.args.gk _ c.steps_of-st.ensures in
+    let n = c.steps_of-st.ensures in
     let e = rw (n.0, n.1) at c.word-w.ensures in
     (e.bits_value, e.width_value)
 
