@@ -6,7 +6,8 @@ use native.Mathlib.Omega.{arith}
 use native.Mathlib.Nat.{le_of_lt}
 use native.Mathlib.Numerals.{add-one}
 use lib.ListN.{length, length-map, length-drop, take, drop, get_or, set}
-use lib.Seq.{take-suc, drop-cons, get_or-drop, set_at, length-take-le}
+use lib.Seq.{take-suc, drop-cons, drop-drop, get_or-drop, set_at, length-take-le}
+use borrow.Rule.Slice.PartMut.{put_mid}
 use Rattle.bits.specs.Bits.{splice}
 use Rattle.bits.proofs.Laws.{splice_one, splice_more, length_splice}
 
@@ -40,3 +41,8 @@ module _ {A : Type 0} (from to : List A) (a : ℕ) where
       let g : get_or from i d ≡ get_or (drop a from) (i - a) d = sym (get_or-drop a from (i - a) d ∙ ap (λ (x : ℕ). get_or from x d) (omega arith)) in
       rw (e, g, o, take-suc (drop a from) (i - a) d (omega arith))
       (ap (λ (x : ℕ). set (splice to a (take (i - a) (drop a from))) x (get_or (drop a from) (i - a) d)) j ∙ put_next to (take (i - a) (drop a from)) a (get_or (drop a from) (i - a) d) (omega arith))
+
+-- what copy_from_slice leaves of a part of a list
+pub part_put : {A : Type 0} (old part : List A) (a n : ℕ) → length part ≡ n → put_mid a n old part ≡ splice old a part
+unfolding splice
+part_put old part a n e = rw (← e, drop-drop (length part) a old)

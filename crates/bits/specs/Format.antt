@@ -1,5 +1,5 @@
 -- Formats: how values stand as bits, and what is read of bits.
-use Rattle.std.specs.Prelude.{ℕ, ◌-◌, ◌<◌, ◌^◌, ◌≡◌, List, [], ◌∷◌, ◌++◌, Bool, cond, length, take, drop, leb, T, Result, Ok, Err}
+use Rattle.std.specs.Prelude.{ℕ, ◌-◌, ◌<◌, ◌^◌, ◌≡◌, List, [], ◌∷◌, ◌++◌, Bool, cond, length, take, drop, leb, T, Option, None, Some, Result, Ok, Err}
 use Rattle.bits.specs.Bits.{bits_n, number_of, bit_at, pos_of}
 use Rattle.bits.specs.declared.BitPos.{BitPos}
 use Rattle.answers.specs.declared.Refusal.{Refusal}
@@ -13,6 +13,11 @@ pub data Got (A : Type 0) : Type 0 where
 abbrev pub and_then : {A B : Type 0} → Got A → (A → List Bool → Got B) → Got B
 and_then (got a rest) f = f a rest
 and_then (refused n) f = refused n
+
+-- what is read where no cause stands before it
+abbrev pub unless : {A : Type 0} → Option Refusal → Got A → Got A
+unless None G = G
+unless (Some k) G = refused k
 
 -- a format: which values it has, their bits, and how they are read
 pub record Format (A : Type 0) : Type 1 where

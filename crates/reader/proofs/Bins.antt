@@ -12,7 +12,8 @@ use Rattle.bits.specs.declared.BitPos.{BitPos}
 use Rattle.bits.proofs.Laws.{splice_none, splice_more}
 use Rattle.bits.proofs.Lawful.{resume_none, resume_next, resume_stop, resume_done}
 use Rattle.bits.proofs.Reading.{next_is, pos_is}
-use Rattle.bits.specs.declared.BitMove.{BitMove}
+use Rattle.std.specs.Prelude.{Result, Ok, Err}
+use Rattle.answers.specs.declared.Refusal.{Refusal}
 use Rattle.bits.specs.Format.{move_answer}
 use Rattle.channel.specs.Bins.{over}
 use Rattle.channel.specs.Row.{active_count}
@@ -92,7 +93,7 @@ module _ {mode : ℕ} {row gains : List ℕ} {start end : ℕ} {s : List ℕ} {f
     next : over (bin mode row gains start end s from o) k end ≡ b ∷ later
     next = over_next (bin mode row gains start end s from o) k end more ∙ ap (λ (d : Bin). d ∷ later) (sym (bin_is mode gains row start k n h g eh en eg))
 
-    pub one_more_lem : (q : BitPos) (o'' : Outputs) → Long end o → (G : Got Item) → (item lenient b).dec here ≡ G → Reads (move_answer (8 * length s)) G (BitMove.Done q) (BinPut k b o' o'')
+    pub one_more_lem : (q : BitPos) (o'' : Outputs) → Long end o → (G : Got Item) → (item lenient b).dec here ≡ G → Reads (move_answer (8 * length s)) G (Ok q) (BinPut k b o' o'')
         → SoFar mode row gains start end s from o q (k + 1) o''
     one_more_lem q o'' l (got y rest) d r =
         let lawful = item_lawful lenient lenient_laws b in
@@ -117,8 +118,8 @@ module _ {mode : ℕ} {row gains : List ℕ} {start end : ℕ} {s : List ℕ} {f
     one_more_lem q o'' l (refused j) d r = let t = r.is in let z : ◌≡◌ {A = ℕ} 0 1 = cc in absurd (omega arith)
 
     -- the bin is refused
-    pub cut : (j : ℕ) (o'' : Outputs) (G : Got Item) → (item lenient b).dec here ≡ G → BitMove.Refused j ≡ move_answer (8 * length s) G
-        → Reads (move_answer (8 * length s)) (each_dec (item lenient) whole (drop from (bits_of s))) (BitMove.Refused j) (BinsPut start whole o o'')
+    pub cut : (j : Refusal) (o'' : Outputs) (G : Got Item) → (item lenient b).dec here ≡ G → Err j ≡ move_answer (8 * length s) G
+        → Reads (move_answer (8 * length s)) (each_dec (item lenient) whole (drop from (bits_of s))) (Err j) (BinsPut start whole o o'')
     cut j o'' (got y rest) d r = let z : ◌≡◌ {A = ℕ} 0 1 = cc in absurd (omega arith)
     cut j o'' (refused j') d r =
         let a : j ≡ j' = cc in
@@ -126,9 +127,9 @@ module _ {mode : ℕ} {row gains : List ℕ} {start end : ℕ} {s : List ℕ} {f
         rw e (record { is = refl; left = tt })
 
   -- all bins are read
-  pub done : end ≤ k → Reads (move_answer (8 * length s)) (each_dec (item lenient) whole (drop from (bits_of s))) (BitMove.Done p) (BinsPut start whole o o')
+  pub done : end ≤ k → Reads (move_answer (8 * length s)) (each_dec (item lenient) whole (drop from (bits_of s))) (Ok p) (BinsPut start whole o o')
   done l =
       let z = over_end (bin mode row gains start end s from o) k end l in
       let b : whole ≡ f.bs = f.parts ∙ rw (z, append-nil) in
       let d : each_dec (item lenient) whole (drop from (bits_of s)) ≡ got f.xs here = f.rest ∙ rw z (resume_done (item lenient) here f.xs) in
-      rw d (record { is = ap BitMove.Done (sym (pos_is s p f.inside)); left = rw b (f.values.is, f.exacts.is, f.indices.is) })
+      rw d (record { is = ap Ok (sym (pos_is s p f.inside)); left = rw b (f.values.is, f.exacts.is, f.indices.is) })

@@ -19,7 +19,9 @@ use Rattle.bits.proofs.Reading.{pos_is}
 use Rattle.gains.specs.Gains.{gain_value}
 use Rattle.channel.specs.Field.{gain_bit, grpgain, first, second, third, one_gain, two_gains, group_words, gain_words}
 use Rattle.channel.proofs.Laws.{by_mode}
-use Rattle.bits.specs.declared.BitMove.{BitMove}
+use Rattle.std.specs.Prelude.{Result, Ok, Err}
+use Rattle.answers.specs.declared.Refusal.{Refusal}
+use Rattle.answers.specs.declared.Refusal.TheVariants.{GroupWord, UnusedCode}
 use Rattle.bits.specs.Format.{move_answer}
 use Rattle.reader.specs.Work.{Reads, GainsPut, missing_code, three_gains}
 
@@ -44,7 +46,7 @@ module _ (F : ℕ → Format (List ℕ)) (n : ℕ) (s : List ℕ) (start : ℕ) 
     pub long : length out' ≡ length out
 
   -- an answer and the output afterwards
-  abbrev pub Answered : BitMove → List ℕ → Type 0
+  abbrev pub Answered : Result BitPos Refusal → List ℕ → Type 0
   Answered r out' = Reads (move_answer (8 * length s)) ((F n).dec (drop start (bits_of s))) r (GainsPut out out')
 
   pub none_yet : (p : BitPos) → bit_at p ≡ start → Inside (8 * length s) p → SoFar p 0 out
@@ -77,15 +79,15 @@ module _ {F : ℕ → Format (List ℕ)} {n : ℕ} {s : List ℕ} {start : ℕ} 
         long = ap length o ∙ length_splice out' xs i (omega arith) ∙ l;
       }
 
-  pub word_refused : (k : ℕ) → (F (n - i)).dec (drop (bit_at p) (bits_of s)) ≡ refused k → Answered F n s start out (BitMove.Refused k) out'
+  pub word_refused : (k : Refusal) → (F (n - i)).dec (drop (bit_at p) (bits_of s)) ≡ refused k → Answered F n s start out (Err k) out'
   word_refused k e = let w : (F n).dec (drop start (bits_of s)) ≡ refused k = f.rest ∙ ap (resume f.gs) e in rw w (record { is = refl; left = tt })
 
-  pub words_done : n ≤ i → (F 0).dec (drop (bit_at p) (bits_of s)) ≡ got [] (drop (bit_at p) (bits_of s)) → Answered F n s start out (BitMove.Done p) out'
+  pub words_done : n ≤ i → (F 0).dec (drop (bit_at p) (bits_of s)) ≡ got [] (drop (bit_at p) (bits_of s)) → Answered F n s start out (Ok p) out'
   unfolding splice
   words_done h e =
       let z : n - i ≡ 0 = omega arith in
       let w : (F n).dec (drop start (bits_of s)) ≡ got f.gs (drop (bit_at p) (bits_of s)) = f.rest ∙ rw (z, e, append-nil) in
-      rw w (record { is = ap BitMove.Done (sym (pos_is s p f.inside)); left = f.gains ∙ rw zero-add })
+      rw w (record { is = ap Ok (sym (pos_is s p f.inside)); left = f.gains ∙ rw zero-add })
 
 -- ---- by the mode
 pub words_zero : (mode n : ℕ) (bs : List Bool) → mode ≡ 0 → (gain_words mode n).dec bs ≡ got [] bs
@@ -112,7 +114,7 @@ module _ (mode : ℕ) (m : (1 ≤ mode) × (mode ≤ 2)) where
     left : replicate {A = ℕ} n 0 ≡ 0 ∷ replicate (n - 1) 0
     left = let e : n ≡ suc (n - 1) = omega arith in ap (λ (k : ℕ). replicate {A = ℕ} k 0) e
 
-    pub bit_short : (k : ℕ) → (number 1).dec bs ≡ refused k → (gain_words mode n).dec bs ≡ refused k
+    pub bit_short : (k : Refusal) → (number 1).dec bs ≡ refused k → (gain_words mode n).dec bs ≡ refused k
     bit_short k e = bits_each n bs ∙ rw left (sym (resume_none _) ∙ resume_stop (λ (k : ℕ). gain_bit mode) 0 (replicate (n - 1) 0) bs [] k (rw e))
 
     pub bit_next : (c g : ℕ) (rest : List Bool) → (number 1).dec bs ≡ got c rest → g ≡ gain_value c mode → (gain_words mode n).dec bs ≡ resume (g ∷ []) ((gain_words mode (n - 1)).dec rest)
@@ -123,17 +125,17 @@ module _ (mode : ℕ) (m : (1 ≤ mode) × (mode ≤ 2)) where
 -- ---- mode 3
 -- a word of one gain or two, the last
 last_word_lem : (ok : ℕ → Bool) (gs : ℕ → List ℕ) (t : Got ℕ)
-    → and_then (and_then t (λ w rest. cond (ok w) (got w rest) (refused 10))) (λ w rest. got (gs w) rest) ≡ and_then t (λ w rest. cond (not (ok w)) (refused 10) (got (gs w) rest))
+    → and_then (and_then t (λ w rest. cond (ok w) (got w rest) (refused UnusedCode))) (λ w rest. got (gs w) rest) ≡ and_then t (λ w rest. cond (not (ok w)) (refused UnusedCode) (got (gs w) rest))
 last_word_lem ok gs (got w rest) = go (ok w)
   where
-    go : (b : Bool) → and_then (cond b (got w rest) (refused 10)) (λ w rest. got (gs w) rest) ≡ cond (not b) (refused 10) (got (gs w) rest)
+    go : (b : Bool) → and_then (cond b (got w rest) (refused UnusedCode)) (λ w rest. got (gs w) rest) ≡ cond (not b) (refused UnusedCode) (got (gs w) rest)
     go true = refl
     go false = refl
 last_word_lem ok gs (refused k) = refl
 
 -- a word, then the rest
 group_first : (n : ℕ) → 1 ≤ n → (bs : List Bool)
-    → (group_words n).dec bs ≡ and_then (grpgain.dec bs) (λ w rest. cond (missing_code w n) (refused 10) (resume (take n (three_gains w)) ((group_words (n - 3)).dec rest)))
+    → (group_words n).dec bs ≡ and_then (grpgain.dec bs) (λ w rest. cond (missing_code w n) (refused UnusedCode) (resume (take n (three_gains w)) ((group_words (n - 3)).dec rest)))
 unfolding group_words missing_code
 group_first zero h bs = absurd (omega arith)
 group_first (suc zero) h bs = last_word_lem one_gain (λ w. first w ∷ []) (grpgain.dec bs)
@@ -147,7 +149,7 @@ group_first (suc (suc (suc n))) h bs = word (grpgain.dec bs)
 
     word : (t : Got ℕ)
         → and_then (and_then t (λ w rest. and_then {A = List ℕ} {B = ℕ × List ℕ} ((group_words n).dec rest) (λ gs rest'. got (w, gs) rest'))) (λ p rest. got (first p.0 ∷ second p.0 ∷ third p.0 ∷ p.1) rest)
-        ≡ and_then t (λ w rest. cond (missing_code w (suc (suc (suc n)))) (refused 10) (resume (take (suc (suc (suc n))) (three_gains w)) ((group_words (suc (suc (suc n)) - 3)).dec rest)))
+        ≡ and_then t (λ w rest. cond (missing_code w (suc (suc (suc n)))) (refused UnusedCode) (resume (take (suc (suc (suc n))) (three_gains w)) ((group_words (suc (suc (suc n)) - 3)).dec rest)))
     word (got w rest) =
         let e : suc (suc (suc n)) - 3 ≡ n = omega arith in
         rw (ne_eqb (suc (suc (suc n))) 1 (λ z. omega arith), ne_eqb (suc (suc (suc n))) 2 (λ z. omega arith), e, take_all {A = ℕ} n [] (omega arith)) (rest_of w ((group_words n).dec rest))
@@ -159,14 +161,14 @@ groups_none bs = refl
 
 -- by what is read
 module _ (n : ℕ) (h : 1 ≤ n) (bs : List Bool) where
-  pub group_short : (k : ℕ) → (number 5).dec bs ≡ refused k → (group_words n).dec bs ≡ refused k
+  pub group_short : (k : Refusal) → (number 5).dec bs ≡ refused k → (group_words n).dec bs ≡ refused k
   group_short k e = group_first n h bs ∙ rw e
 
   module _ (w : ℕ) (rest : List Bool) (e : (number 5).dec bs ≡ got w rest) where
-    pub group_high : 26 < w → (group_words n).dec bs ≡ refused 9
+    pub group_high : 26 < w → (group_words n).dec bs ≡ refused GroupWord
     group_high l = group_first n h bs ∙ rw (e, lt-leb w 26 l)
 
-    pub group_missing : w ≤ 26 → missing_code w n ≡ true → (group_words n).dec bs ≡ refused 10
+    pub group_missing : w ≤ 26 → missing_code w n ≡ true → (group_words n).dec bs ≡ refused UnusedCode
     group_missing l m = group_first n h bs ∙ rw (e, le-leb w 26 l, m)
 
     pub group_next : w ≤ 26 → missing_code w n ≡ false → (group_words n).dec bs ≡ resume (take n (three_gains w)) ((group_words (n - 3)).dec rest)

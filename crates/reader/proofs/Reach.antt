@@ -5,6 +5,8 @@ use mathlib.Core.Bool.{Bool}
 use mathlib.Core.List.{List, ◌++◌}
 use native.Mathlib.Omega.{arith}
 use lib.ListN.{length, length-append, length-drop, drop}
+use Rattle.std.specs.Prelude.{Result, Ok}
+use Rattle.answers.specs.declared.Refusal.{Refusal}
 use Rattle.bits.specs.Bits.{bits_of, bit_at, pos_of}
 use Rattle.bits.specs.Format.{Got, got, refused}
 use Rattle.bits.specs.declared.BitPos.{BitPos}
@@ -57,5 +59,5 @@ module _ (row : List ℕ) (start end : ℕ) (c : Call) (p : BitPos) (at : bit_at
           let a = at_pos (n - length rest) in
           let b : bit_at (pos_of (n - length rest)) - bit_at p ≡ n - c.at - length rest = omega arith in
           ap (λ (l : List ℕ). answer_with l p (field_answer n (got d rest))) w
-          ∙ ap {B = ChannelRead} (λ (k : ℕ). record { refusal = 0; mode = d.mode; gains = d.gains ++ drop (length d.gains) no_gains; count = length d.gains; bits = k }) b
+          ∙ ap {B = Result ChannelRead Refusal} (λ (k : ℕ). Ok (record { mode = d.mode; gains = d.gains ++ drop (length d.gains) no_gains; count = length d.gains; bits = k })) b
       go (refused k) g w = refl

@@ -10,12 +10,11 @@ use lib.Seq.{take-append_seam}
 use Rattle.bits.specs.Bits.{bits_of, bit_at, pos_of, splice, Inside, read_u32}
 use Rattle.bits.specs.Format.{Got, got, refused, and_then, Format, number, both, each}
 use Rattle.bits.specs.declared.BitPos.{BitPos}
-use Rattle.bits.specs.declared.BitRead.{BitRead}
-use Rattle.bits.specs.declared.BitRead.TheVariants.{Number}
 use Rattle.bits.proofs.Laws.{splice_read}
 use Rattle.bits.proofs.Lawful.{Lawful, number_lawful, each_lawful}
 use Rattle.bits.proofs.Reading.{pos_is, number_as, next_inside}
-use Rattle.bits.specs.declared.BitMove.{BitMove}
+use Rattle.std.specs.Prelude.{Result, Ok, Err}
+use Rattle.answers.specs.declared.Refusal.{Refusal}
 use Rattle.bits.specs.Format.{move_answer}
 use Rattle.channel.specs.Row.{active_count, RowOk}
 use Rattle.channel.specs.Field.{gain_words, Item, lenient, item, bins_of, Channel, from_parts, behind_mode, field}
@@ -24,16 +23,16 @@ use Rattle.channel.proofs.Rows.{none_active}
 use Rattle.channel.proofs.Laws.{lenient_laws, gain_words_lawful, item_lawful, field_lawful}
 use Rattle.channel.proofs.Parts.{gain_words_count, parts}
 use Rattle.channel.proofs.Shown.{values_long, exacts_long, indices_long}
-use Rattle.reader.specs.declared.FieldResult.{FieldResult}
+use Rattle.reader.specs.declared.FieldEnd.{FieldEnd}
 use Rattle.reader.specs.Work.{WhenGot, Reads, Outputs, Long, BinsPut, FoundPut, GainsPut, behind_answer, field_answer}
 use Rattle.bits.proofs.Reading.{next_is}
 
 -- ---- one format after another
 module _ {A B : Type 0} (F : Format A) (G : A → Format B) (bs : List Bool) where
-  both_stop : (k : ℕ) → F.dec bs ≡ refused k → (both F G).dec bs ≡ refused k
+  both_stop : (k : Refusal) → F.dec bs ≡ refused k → (both F G).dec bs ≡ refused k
   both_stop k e = rw e
 
-  both_cut : (a : A) (rest : List Bool) (k : ℕ) → F.dec bs ≡ got a rest → (G a).dec rest ≡ refused k → (both F G).dec bs ≡ refused k
+  both_cut : (a : A) (rest : List Bool) (k : Refusal) → F.dec bs ≡ got a rest → (G a).dec rest ≡ refused k → (both F G).dec bs ≡ refused k
   both_cut a rest k e f = rw (e, f)
 
   both_read : (a : A) (b : B) (rest rest' : List Bool) → F.dec bs ≡ got a rest → (G a).dec rest ≡ got b rest' → (both F G).dec bs ≡ got (a, b) rest'
@@ -46,20 +45,20 @@ pub record ReadTo {A : Type 0} (F : Format A) (s : List ℕ) (at : ℕ) (q : Bit
   pub inside : Inside (8 * length s) q
 
 module _ {A : Type 0} (F : Format A) (s : List ℕ) (at : ℕ) where
-  pub read_to : Lawful F → at ≤ 8 * length s → (r : BitMove) (q : BitPos) → r ≡ move_answer (8 * length s) (F.dec (drop at (bits_of s))) → r ≡ BitMove.Done q → ReadTo F s at q
+  pub read_to : Lawful F → at ≤ 8 * length s → (r : Result BitPos Refusal) (q : BitPos) → r ≡ move_answer (8 * length s) (F.dec (drop at (bits_of s))) → r ≡ Ok q → ReadTo F s at q
   read_to f h r q e d = go (F.dec (drop at (bits_of s))) refl (sym d ∙ e)
     where
-      go : (G : Got A) → F.dec (drop at (bits_of s)) ≡ G → BitMove.Done q ≡ move_answer (8 * length s) G → ReadTo F s at q
+      go : (G : Got A) → F.dec (drop at (bits_of s)) ≡ G → Ok q ≡ move_answer (8 * length s) G → ReadTo F s at q
       go (got a rest) g t =
           let u : q ≡ pos_of (8 * length s - length rest) = cc in
           let n = next_is F f s at a rest h g in
           record { value = a; is = g ∙ ap (got a) (rw u n.1); inside = rw u n.0 }
       go (refused k) g t = let z : ◌≡◌ {A = ℕ} 0 1 = cc in absurd (omega arith)
 
-  pub read_stop : (r : BitMove) (k : ℕ) → r ≡ move_answer (8 * length s) (F.dec (drop at (bits_of s))) → r ≡ BitMove.Refused k → F.dec (drop at (bits_of s)) ≡ refused k
+  pub read_stop : (r : Result BitPos Refusal) (k : Refusal) → r ≡ move_answer (8 * length s) (F.dec (drop at (bits_of s))) → r ≡ Err k → F.dec (drop at (bits_of s)) ≡ refused k
   read_stop r k e d = go (F.dec (drop at (bits_of s))) (sym d ∙ e)
     where
-      go : (G : Got A) → BitMove.Refused k ≡ move_answer (8 * length s) G → G ≡ refused k
+      go : (G : Got A) → Err k ≡ move_answer (8 * length s) G → G ≡ refused k
       go (got a rest) t = let z : ◌≡◌ {A = ℕ} 0 1 = cc in absurd (omega arith)
       go (refused j) t = let u : k ≡ j = cc in ap refused (sym u)
 
@@ -78,11 +77,11 @@ module _ (mode : ℕ) (row : List ℕ) (start end : ℕ) (s : List ℕ) (p : Bit
   behind = (behind_mode lenient row start end mode).dec here
 
   -- what is left where all is read: the gains and the bins
-  abbrev pub Answered : FieldResult → List ℕ → List ℕ → Outputs → Outputs → Type 0
+  abbrev pub Answered : Result FieldEnd Refusal → List ℕ → List ℕ → Outputs → Outputs → Type 0
   Answered r out out' o o' =
       Reads (behind_answer mode (8 * length s)) behind r (λ c. GainsPut out out' c.0 × BinsPut start (bins_of mode c.0 row start end) o o' c.1)
 
-  stopped : (k : ℕ) (out out' : List ℕ) (o o' : Outputs) → behind ≡ refused k → Answered (FieldResult.Refused k) out out' o o'
+  stopped : (k : Refusal) (out out' : List ℕ) (o o' : Outputs) → behind ≡ refused k → Answered (Err k) out out' o o'
   stopped k out out' o o' e = rw e (record { is = refl; left = tt })
 
   -- the gains that were read, n of them, and the output they went to
@@ -95,12 +94,12 @@ module _ (mode : ℕ) (row : List ℕ) (start end : ℕ) (s : List ℕ) (p : Bit
     pub front : take n out' ≡ gs
 
   module _ (n : ℕ) (active : n ≡ active_count mode row start end) where
-    pub gains_stop : (r : BitMove) (k : ℕ) (out out' : List ℕ) (o o' : Outputs) → r ≡ move_answer (8 * length s) ((gain_words mode n).dec here) → r ≡ BitMove.Refused k
-        → Answered (FieldResult.Refused k) out out' o o'
+    pub gains_stop : (r : Result BitPos Refusal) (k : Refusal) (out out' : List ℕ) (o o' : Outputs) → r ≡ move_answer (8 * length s) ((gain_words mode n).dec here) → r ≡ Err k
+        → Answered (Err k) out out' o o'
     gains_stop r k out out' o o' e d = stopped k out out' o o' (both_stop words bins here k (read_stop words s (bit_at p) r k (e ∙ rw active) d))
 
-    pub gains_read : mode ≤ 3 → Inside (8 * length s) p → (r : BitMove) (next : BitPos) (out out' : List ℕ)
-        → Reads (move_answer (8 * length s)) ((gain_words mode n).dec here) r (GainsPut out out') → r ≡ BitMove.Done next → GainsRead n next out out'
+    pub gains_read : mode ≤ 3 → Inside (8 * length s) p → (r : Result BitPos Refusal) (next : BitPos) (out out' : List ℕ)
+        → Reads (move_answer (8 * length s)) ((gain_words mode n).dec here) r (GainsPut out out') → r ≡ Ok next → GainsRead n next out out'
     gains_read few i r next out out' e d =
         let l = gain_words_lawful mode (active_count mode row start end) in
         let t = read_to words s (bit_at p) l i.0 r next (e.is ∙ rw active) d in
@@ -118,7 +117,7 @@ module _ (mode : ℕ) (row : List ℕ) (start end : ℕ) (s : List ℕ) (p : Bit
 
 -- the bins behind them
 module _ {mode : ℕ} {row : List ℕ} {start end : ℕ} {s : List ℕ} {p : BitPos} {n : ℕ} {next : BitPos} {out out' : List ℕ}
-    (g : GainsRead mode row start end s p n next out out') (r : BitMove) (o o' : Outputs)
+    (g : GainsRead mode row start end s p n next out out') (r : Result BitPos Refusal) (o o' : Outputs)
     (e : Reads (move_answer (8 * length s)) ((bins mode row start end s p (take n out')).dec (drop (bit_at next) (bits_of s))) r
     (BinsPut start (bins_of mode (take n out') row start end) o o')) where
   abbrev bins_of_lem : List ℕ → Format (List Item)
@@ -127,12 +126,12 @@ module _ {mode : ℕ} {row : List ℕ} {start end : ℕ} {s : List ℕ} {p : Bit
   abbrev words_of : Format (List ℕ)
   words_of = words mode row start end s p
 
-  pub bins_stop : (k : ℕ) → r ≡ BitMove.Refused k → Answered mode row start end s p (FieldResult.Refused k) out out' o o'
+  pub bins_stop : (k : Refusal) → r ≡ Err k → Answered mode row start end s p (Err k) out out' o o'
   bins_stop k d =
       let c = read_stop (bins_of_lem g.gs) s (bit_at next) r k (rw g.front at e.is) d in
       stopped mode row start end s p k out out' o o' (both_cut words_of bins_of_lem (here mode row start end s p) g.gs (drop (bit_at next) (bits_of s)) k g.is c)
 
-  pub bins_read_lem : (last : BitPos) → r ≡ BitMove.Done last → Answered mode row start end s p (FieldResult.Done mode n last) out out' o o'
+  pub bins_read_lem : (last : BitPos) → r ≡ Ok last → Answered mode row start end s p (Ok (record { mode = mode; count = n; pos = last })) out out' o o'
   bins_read_lem last d =
       let e' = rw g.front at e.is in
       let w' = subst (λ (gs : List ℕ). WhenGot ((bins_of_lem gs).dec (drop (bit_at next) (bits_of s))) (BinsPut start (bins_of mode gs row start end) o o')) g.front e.left in
@@ -151,12 +150,12 @@ module _ (row : List ℕ) (start end : ℕ) (s : List ℕ) (p : BitPos) where
   abbrev pub Worked : List ℕ → List ℕ → Outputs → Outputs → Channel → Type 0
   Worked out out' o o' c = GainsPut out out' c.gains × BinsPut start (bins_in row start end c) o o' c.items
 
-  abbrev pub FieldRead : FieldResult → List ℕ → List ℕ → Outputs → Outputs → Type 0
+  abbrev pub FieldRead : Result FieldEnd Refusal → List ℕ → List ℕ → Outputs → Outputs → Type 0
   FieldRead r out out' o o' = Reads (field_answer (8 * length s)) ((field row start end).dec from) r (Worked out out' o o')
 
-  pub mode_stop : (r : BitRead) (k : ℕ) (out out' : List ℕ) (o o' : Outputs) → r ≡ read_u32 s (bit_at p) 2 → r ≡ BitRead.Refused k → FieldRead (FieldResult.Refused k) out out' o o'
+  pub mode_stop : (r : Result (ℕ × BitPos) Refusal) (k : Refusal) (out out' : List ℕ) (o o' : Outputs) → r ≡ read_u32 s (bit_at p) 2 → r ≡ Err k → FieldRead (Err k) out out' o o'
   mode_stop r k out out' o o' e d =
-      let z : (field row start end).dec from ≡ refused k = rw (number_as s (bit_at p) 2 (omega arith) (inl (omega arith)) r (BitRead.Refused k) e d) in
+      let z : (field row start end).dec from ≡ refused k = rw (number_as s (bit_at p) 2 (omega arith) (inl (omega arith)) r (Err k) e d) in
       rw z (record { is = refl; left = tt })
 
   pub record ModeRead (mode : ℕ) (next : BitPos) : Type 0 where
@@ -164,10 +163,10 @@ module _ (row : List ℕ) (start end : ℕ) (s : List ℕ) (p : BitPos) where
     pub inside : Inside (8 * length s) next
     pub few : mode ≤ 3
 
-  pub mode_read : (r : BitRead) (mode : ℕ) (next : BitPos) → r ≡ read_u32 s (bit_at p) 2 → r ≡ Number mode next → ModeRead mode next
+  pub mode_read : (r : Result (ℕ × BitPos) Refusal) (mode : ℕ) (next : BitPos) → r ≡ read_u32 s (bit_at p) 2 → r ≡ Ok (mode, next) → ModeRead mode next
   unfolding number
   mode_read r mode next e d =
-      let n = number_as s (bit_at p) 2 (omega arith) (inl (omega arith)) r (Number mode next) e d in
+      let n = number_as s (bit_at p) 2 (omega arith) (inl (omega arith)) r (Ok (mode, next)) e d in
       let few = ((number_lawful 2).sole from (drop (bit_at next) (bits_of s)) mode n).1 in
       record { is = n; inside = next_inside s (bit_at p) 2 (omega arith) mode next (sym e ∙ d); few = omega (arith, few) }
 
@@ -186,7 +185,7 @@ module _ {row : List ℕ} {start end : ℕ} {s : List ℕ} {p : BitPos} {mode : 
       go (got c rest) = refl
       go (refused k) = refl
 
-  pub field_read : (r : FieldResult) (out out' : List ℕ) (o o' : Outputs) → Answered mode row start end s next r out out' o o' → FieldRead row start end s p r out out' o o'
+  pub field_read : (r : Result FieldEnd Refusal) (out out' : List ℕ) (o o' : Outputs) → Answered mode row start end s next r out out' o o' → FieldRead row start end s p r out out' o o'
   field_read r out out' o o' h = rw whole (go rest_of h)
     where
       go : (G : Got (List ℕ × List Item)) → Reads (behind_answer mode (8 * length s)) G r (λ c. GainsPut out out' c.0 × BinsPut start (bins_of mode c.0 row start end) o o' c.1)
@@ -203,27 +202,27 @@ module _ (row : List ℕ) (start end : ℕ) (s : List ℕ) (p : BitPos) where
   abbrev field_found : Got Channel
   field_found = (field row start end).dec (drop (bit_at p) (bits_of s))
 
-  module _ (r : FieldResult) (out out' : List ℕ) (w w' o o' : Outputs) (e : FieldRead row start end s p r out out' w w') where
+  module _ (r : Result FieldEnd Refusal) (out out' : List ℕ) (w w' o o' : Outputs) (e : FieldRead row start end s p r out out' w w') where
     -- where nothing is read the outputs are kept,
-    pub not_handed : (k : ℕ) → r ≡ FieldResult.Refused k → o' ≡ o
-        → Reads (field_answer (8 * length s)) field_found (FieldResult.Refused k) (λ c. GainsPut out out' c.gains) × FoundPut row start end o o' field_found
+    pub not_handed : (k : Refusal) → r ≡ Err k → o' ≡ o
+        → Reads (field_answer (8 * length s)) field_found (Err k) (λ c. GainsPut out out' c.gains) × FoundPut row start end o o' field_found
     not_handed k d same = go field_found (sym d ∙ e.is)
       where
-        go : (G : Got Channel) → FieldResult.Refused k ≡ field_answer (8 * length s) G
-            → Reads (field_answer (8 * length s)) G (FieldResult.Refused k) (λ c. GainsPut out out' c.gains) × FoundPut row start end o o' G
+        go : (G : Got Channel) → Err k ≡ field_answer (8 * length s) G
+            → Reads (field_answer (8 * length s)) G (Err k) (λ c. GainsPut out out' c.gains) × FoundPut row start end o o' G
         go (got c rest) t = let z : ◌≡◌ {A = ℕ} 0 1 = cc in absurd (omega arith)
         go (refused j) t = rw same (record { is = t; left = tt }, (refl, refl, refl))
 
     -- and else get what was read to the scratch buffers
-    pub handed_out : (m n : ℕ) (q : BitPos) → RowOk row start end → Long end w → r ≡ FieldResult.Done m n q
+    pub handed_out : (m n : ℕ) (q : BitPos) → RowOk row start end → Long end w → r ≡ Ok (record { mode = m; count = n; pos = q })
         → o'.values ≡ splice o.values (6 * start) (take (6 * end - 6 * start) (drop (6 * start) w'.values))
         → o'.exact ≡ splice o.exact (6 * start) (take (6 * end - 6 * start) (drop (6 * start) w'.exact))
         → o'.indices ≡ splice o.indices start (take (end - start) (drop start w'.indices))
-        → Reads (field_answer (8 * length s)) field_found (FieldResult.Done m n q) (λ c. GainsPut out out' c.gains) × FoundPut row start end o o' field_found
+        → Reads (field_answer (8 * length s)) field_found (Ok (record { mode = m; count = n; pos = q })) (λ c. GainsPut out out' c.gains) × FoundPut row start end o o' field_found
     handed_out m n q ok long d ev ex ei = go field_found refl (sym d ∙ e.is) e.left
       where
-        go : (G : Got Channel) → field_found ≡ G → FieldResult.Done m n q ≡ field_answer (8 * length s) G → WhenGot G (Worked row start end s p out out' w w')
-            → Reads (field_answer (8 * length s)) G (FieldResult.Done m n q) (λ c. GainsPut out out' c.gains) × FoundPut row start end o o' G
+        go : (G : Got Channel) → field_found ≡ G → Ok (record { mode = m; count = n; pos = q }) ≡ field_answer (8 * length s) G → WhenGot G (Worked row start end s p out out' w w')
+            → Reads (field_answer (8 * length s)) G (Ok (record { mode = m; count = n; pos = q })) (λ c. GainsPut out out' c.gains) × FoundPut row start end o o' G
         go (got c rest) g t k =
             let pt = parts lenient row start end c ((field_lawful lenient lenient_laws row start end).sole (drop (bit_at p) (bits_of s)) rest c g).1 in
             let b = ok.ordered in

@@ -1,9 +1,11 @@
 -- What the channel reader answers: the layout backwards. docs/FORMAT.md, Channel reader, and 'Causes and refusals'
 -- (1 to 4, then 8, 9, 10 as met).
-use Rattle.std.specs.Prelude.{ℕ, ◌-◌, ◌*◌, cond, ◌||◌, List, ◌++◌, eqb, ltb, leb, ℤ, Float, length, drop}
-use Rattle.answers.specs.Causes as cause
+use Rattle.std.specs.Prelude.{ℕ, ◌-◌, ◌*◌, cond, ◌||◌, List, ◌++◌, ltb, leb, ℤ, Float, length, drop, Option, Result, Ok, Err}
+use Rattle.answers.specs.Answers.{value_or}
+use Rattle.answers.specs.declared.Refusal.{Refusal}
+use Rattle.answers.specs.declared.Refusal.TheVariants.{InputEnds}
 use Rattle.bits.specs.Bits.{bits_of, splice}
-use Rattle.bits.specs.Format.{Got, got, refused}
+use Rattle.bits.specs.Format.{Got, got, refused, unless}
 use Rattle.channel.specs.Row.{no_gains, row_cause}
 use Rattle.channel.specs.Field.{Channel, field}
 use Rattle.channel.specs.Shown.{values_shown, exacts_shown, indices_shown}
@@ -20,16 +22,11 @@ pub record Call : Type 0 where
 abbrev pub call : List ℕ → ℕ → List Float → List ℤ → List ℕ → Call
 call src at values exact indices = record { src = src; at = at; values = values; exact = exact; indices = indices }
 
--- zeros stand beside a refusal
-abbrev pub no_channel : ℕ → ChannelRead
-no_channel k = record { refusal = k; mode = 0; gains = no_gains; count = 0; bits = 0 }
-
--- the number and the values: the mode, the gains in bin order with unused places 0, and how many of n bits
--- were used
-abbrev pub read_answer : ℕ → Got Channel → ChannelRead
+-- what is answered: the mode, the gains in bin order with unused places 0, and how many of n bits were used
+abbrev pub read_answer : ℕ → Got Channel → Result ChannelRead Refusal
 read_answer n (got c rest) =
-    record { refusal = 0; mode = c.mode; gains = c.gains ++ drop (length c.gains) no_gains; count = length c.gains; bits = n - length rest }
-read_answer n (refused k) = no_channel k
+    Ok (record { mode = c.mode; gains = c.gains ++ drop (length c.gains) no_gains; count = length c.gains; bits = n - length rest })
+read_answer n (refused k) = Err k
 
 -- an output afterwards: with what f shows of the channel from a place on, or as it was
 abbrev pub with_shown : {A : Type 0} → (Channel → List A) → ℕ → List A → Got Channel → List A
@@ -38,19 +35,16 @@ with_shown f at old (refused k) = old
 
 -- for a row and the bins start to end - 1
 module _ (row : List ℕ) (start end : ℕ) (c : Call) where
-  -- causes 1 to 4: the lowest that holds, 0 where none does
-  unfoldable pub read_cause : ℕ
+  -- causes 1 to 4: the lowest that holds, if one does
+  unfoldable pub read_cause : Option Refusal
   read_cause = row_cause row start end (ltb (length c.values) (6 * end) || (ltb (length c.exact) (6 * end) || ltb (length c.indices) end))
 
   -- the channel that it finds; 8 for a position past the end
   unfoldable pub found : Got Channel
-  found =
-      cond (eqb read_cause 0)
-      (cond (leb c.at (8 * length c.src)) ((field row start end).dec (drop c.at (bits_of c.src))) (refused cause.input_ends))
-      (refused read_cause)
+  found = unless read_cause (cond (leb c.at (8 * length c.src)) ((field row start end).dec (drop c.at (bits_of c.src))) (refused InputEnds))
 
   -- the answer, and the outputs after the call
-  abbrev pub answer_to : ChannelRead
+  abbrev pub answer_to : Result ChannelRead Refusal
   answer_to = read_answer (8 * length c.src - c.at) found
 
   abbrev pub values_after : List Float
@@ -61,3 +55,7 @@ module _ (row : List ℕ) (start end : ℕ) (c : Call) where
 
   abbrev pub indices_after : List ℕ
   indices_after = with_shown (indices_shown row start end) start c.indices found
+
+  -- what is answered; zeros where the call refuses
+  abbrev pub channel_answered : ChannelRead
+  channel_answered = value_or (record { mode = 0; gains = no_gains; count = 0; bits = 0 }) answer_to

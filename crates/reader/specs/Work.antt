@@ -1,13 +1,14 @@
 -- What the inner functions of the reader promise: no meaning of its own. Reading has what the call answers.
-use Rattle.std.specs.Prelude.{ℕ, ◌+◌, ◌-◌, ◌*◌, ◌≤◌, ◌<◌, ◌≡◌, Bool, false, cond, not, List, [], ◌∷◌, ◌++◌, eqb, ℤ, Float, length, drop}
+use Rattle.std.specs.Prelude.{ℕ, ◌+◌, ◌-◌, ◌*◌, ◌≤◌, ◌<◌, ◌≡◌, Bool, false, cond, not, List, [], ◌∷◌, ◌++◌, eqb, ℤ, Float, length, drop, Result, Ok, Err}
 use Rattle.bits.specs.Bits.{bits_of, splice, bit_at, pos_of}
 use Rattle.bits.specs.Format.{Got, got, refused}
 use Rattle.bits.specs.declared.BitPos.{BitPos}
 use Rattle.channel.specs.Field.{first, second, third, one_gain, two_gains, Bin, Item, Channel}
 use Rattle.channel.specs.Shown.{values_of, exacts_of, index_of, values_in, exacts_in, indices_in, values_shown, exacts_shown, indices_shown}
 use Rattle.reader.specs.declared.ChannelRead.{ChannelRead}
-use Rattle.reader.specs.declared.FieldResult.{FieldResult}
-use Rattle.reader.specs.Reading.{no_channel, with_shown}
+use Rattle.reader.specs.declared.FieldEnd.{FieldEnd}
+use Rattle.reader.specs.Reading.{with_shown}
+use Rattle.answers.specs.declared.Refusal.{Refusal}
 
 -- ---- what was read, and what holds then
 -- the bits from a position on
@@ -68,20 +69,20 @@ three_gains w = first w ∷ second w ∷ third w ∷ []
 
 -- ---- the field
 -- the mode, how many gains, and the position behind the field in n bits
-abbrev pub behind_answer : ℕ → ℕ → Got (List ℕ × List Item) → FieldResult
-behind_answer mode n (got c rest) = FieldResult.Done mode (length c.0) (pos_of (n - length rest))
-behind_answer mode n (refused k) = FieldResult.Refused k
+abbrev pub behind_answer : ℕ → ℕ → Got (List ℕ × List Item) → Result FieldEnd Refusal
+behind_answer mode n (got c rest) = Ok (record { mode = mode; count = length c.0; pos = pos_of (n - length rest) })
+behind_answer mode n (refused k) = Err k
 
-abbrev pub field_answer : ℕ → Got Channel → FieldResult
-field_answer n (got c rest) = FieldResult.Done c.mode (length c.gains) (pos_of (n - length rest))
-field_answer n (refused k) = FieldResult.Refused k
+abbrev pub field_answer : ℕ → Got Channel → Result FieldEnd Refusal
+field_answer n (got c rest) = Ok (record { mode = c.mode; count = length c.gains; pos = pos_of (n - length rest) })
+field_answer n (refused k) = Err k
 
 -- a position behind p, and not far
-abbrev pub Near : BitPos → FieldResult → Type 0
-Near p (FieldResult.Done mode count q) = (bit_at p ≤ bit_at q) × (bit_at q ≤ bit_at p + 65536) × (q.bit < 8)
-Near p (FieldResult.Refused k) = Unit {0}
+abbrev pub Near : BitPos → Result FieldEnd Refusal → Type 0
+Near p (Ok f) = (bit_at p ≤ bit_at f.pos) × (bit_at f.pos ≤ bit_at p + 65536) × (f.pos.bit < 8)
+Near p (Err k) = Unit {0}
 
 -- the answer with the gains and the bits from p on
-abbrev pub answer_with : List ℕ → BitPos → FieldResult → ChannelRead
-answer_with gains p (FieldResult.Done mode count q) = record { refusal = 0; mode = mode; gains = gains; count = count; bits = bit_at q - bit_at p }
-answer_with gains p (FieldResult.Refused k) = no_channel k
+abbrev pub answer_with : List ℕ → BitPos → Result FieldEnd Refusal → Result ChannelRead Refusal
+answer_with gains p (Ok f) = Ok (record { mode = f.mode; gains = gains; count = f.count; bits = bit_at f.pos - bit_at p })
+answer_with gains p (Err k) = Err k

@@ -5,10 +5,11 @@ ghost use Rattle.bits.specs.Format.{move_answer};
 ghost use Rattle.channel.specs.Field.{group_words, gain_words};
 ghost use Rattle.reader.specs.Work.{bits_from, Reads, GainsPut, missing_code, three_gains};
 
-use bits::{BitMove, BitPos, BitRead};
+use answers::Refusal;
+use bits::BitPos;
 
 // The gain words of mode 1 or 2: a bit for each of n gains, which go to the front of the output.
-pub fn read_gain_bits(src: &[u8], pos: BitPos, mode: u8, n: usize, gains: &mut [u8]) -> BitMove
+pub fn read_gain_bits(src: &[u8], pos: BitPos, mode: u8, n: usize, gains: &mut [u8]) -> Result<BitPos, Refusal>
     requires le_mode { (1 ≤ mode) × (mode ≤ 2) }
     requires inside { Inside (8 * length src.now) pos }
     requires n_in_bounds { n ≤ length gains.old }
@@ -16,20 +17,12 @@ pub fn read_gain_bits(src: &[u8], pos: BitPos, mode: u8, n: usize, gains: &mut [
         (GainsPut gains.old gains.new) }
 {
     let mut p = pos;
-    let mut i: usize = 0;
-    while i < n {
-        match p.read_u32(src, 1) {
-            BitRead::Refused(k) => {
-                return BitMove::Refused(k);
-            }
-            BitRead::Number(code, next) => {
-                gains[i] = gains::gain_value(code as u8, mode);
-                p = next;
-                i += 1;
-            }
-        }
+    for i in 0..n {
+        let (code, next) = p.read_u32(src, 1)?;
+        gains[i] = gains::gain_value(code as u8, mode);
+        p = next;
     }
-    BitMove::Done(p)
+    Ok(p)
 }
 
 // Whether an unused code of the last word is not 0: `left` gains are left to read.
@@ -70,7 +63,7 @@ pub fn put_gains(gains: &mut [u8], i: usize, left: usize, word: u32)
 
 // Mode 3: a word of five bits for three gains, n gains in all, which go to the front of the output. Refuses with 9 a
 // word above 26, with 10 an unused code that is not 0.
-pub fn read_group_words(src: &[u8], pos: BitPos, n: usize, gains: &mut [u8]) -> BitMove
+pub fn read_group_words(src: &[u8], pos: BitPos, n: usize, gains: &mut [u8]) -> Result<BitPos, Refusal>
     requires inside { Inside (8 * length src.now) pos }
     requires n_in_bounds { n ≤ length gains.old }
     ensures { Reads (move_answer (8 * length src.now)) ((group_words n).dec (bits_from src.now pos)) result
@@ -79,28 +72,22 @@ pub fn read_group_words(src: &[u8], pos: BitPos, n: usize, gains: &mut [u8]) -> 
     let mut p = pos;
     let mut i: usize = 0;
     while i < n {
-        match p.read_u32(src, 5) {
-            BitRead::Refused(k) => {
-                return BitMove::Refused(k);
-            }
-            BitRead::Number(word, next) => {
-                if 26 < word {
-                    return BitMove::Refused(answers::GROUP_WORD);
-                }
-                if missing(word, n - i) {
-                    return BitMove::Refused(answers::UNUSED_CODE);
-                }
-                put_gains(&mut *gains, i, n - i, word);
-                p = next;
-                i += 3;
-            }
+        let (word, next) = p.read_u32(src, 5)?;
+        if 26 < word {
+            return Err(Refusal::GroupWord);
         }
+        if missing(word, n - i) {
+            return Err(Refusal::UnusedCode);
+        }
+        put_gains(&mut *gains, i, n - i, word);
+        p = next;
+        i += 3;
     }
-    BitMove::Done(p)
+    Ok(p)
 }
 
 // The gain words of a mode for n active bins; the gains go to the front of the output.
-pub fn read_gains(src: &[u8], pos: BitPos, mode: u8, n: usize, gains: &mut [u8]) -> BitMove
+pub fn read_gains(src: &[u8], pos: BitPos, mode: u8, n: usize, gains: &mut [u8]) -> Result<BitPos, Refusal>
     requires mode_bound { mode ≤ 3 }
     requires inside { Inside (8 * length src.now) pos }
     requires n_in_bounds { n ≤ length gains.old }
@@ -108,7 +95,7 @@ pub fn read_gains(src: &[u8], pos: BitPos, mode: u8, n: usize, gains: &mut [u8])
         (GainsPut gains.old gains.new) }
 {
     match mode {
-        0 => BitMove::Done(pos),
+        0 => Ok(pos),
         3 => read_group_words(src, pos, n, gains),
         _ => read_gain_bits(src, pos, mode, n, gains),
     }

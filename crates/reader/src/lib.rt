@@ -6,8 +6,9 @@ ghost use Rattle.bits.specs.Bits.{bit_at, Inside};
 ghost use Rattle.channel.specs.Row.{RowOk};
 ghost use Rattle.channel.specs.Field.{field};
 ghost use Rattle.reader.specs.Reading.{call, found, answer_to, values_after, exact_after, indices_after};
-ghost use Rattle.reader.specs.Work.{bits_from, Reads, outputs, Long, FoundPut, GainsPut, field_answer, Near, answer_with};
+ghost use Rattle.reader.specs.Work.{bits_from, Reads, outputs, Long, FoundPut, GainsPut, field_answer};
 
+use answers::Refusal;
 use bits::BitPos;
 
 mod gain_words;
@@ -15,22 +16,22 @@ mod hand_over;
 mod one_bin;
 mod whole_field;
 
-// refusal is 0, or its number beside zeros. The gains are Gk in bin order, count of them, then zeros; bits is the
-// length of the field.
+// What a field shows beside the outputs. The gains are Gk in bin order, count of them, then zeros; bits is the length of
+// the field.
 #[derive(Clone, Copy)]
 pub struct ChannelRead {
-    pub refusal: u8,
     pub mode: u8,
     pub gains: [u8; 256],
     pub count: usize,
     pub bits: u32,
 }
 
-// The mode, how many gains, and the position behind the field; or the number of the refusal.
+// The mode, how many gains, and the position behind the field.
 #[derive(Clone, Copy)]
-pub enum FieldResult {
-    Done(u8, usize, BitPos),
-    Refused(u8),
+pub struct FieldEnd {
+    pub mode: u8,
+    pub count: usize,
+    pub pos: BitPos,
 }
 
 // Whether an output is too short for the bins: 6 * end could overflow, so the lengths are divided.
@@ -61,7 +62,7 @@ fn read_known(
     v: &mut [f32],
     e: &mut [i32],
     x: &mut [u16],
-) -> FieldResult
+) -> Result<FieldEnd, Refusal>
     requires row_ok { RowOk hebap.now start end }
     requires inside { Inside (8 * length src.now) pos }
     requires long { Long end (outputs values.old exact.old indices.old) }
@@ -73,16 +74,11 @@ fn read_known(
         (outputs values.new exact.new indices.new)
         ((field hebap.now start end).dec (bits_from src.now pos)) }
 {
-    let r = whole_field::read_field(
+    let field = whole_field::read_field(
         src, pos, hebap, start, end, gains, &mut *v, &mut *e, &mut *x,
-    );
-    match r {
-        FieldResult::Refused(k) => FieldResult::Refused(k),
-        FieldResult::Done(mode, count, next) => {
-            hand_over::hand_out(&*v, &*e, &*x, start, end, values, exact, indices);
-            FieldResult::Done(mode, count, next)
-        }
-    }
+    )?;
+    hand_over::hand_out(&*v, &*e, &*x, start, end, values, exact, indices);
+    Ok(field)
 }
 
 // The same for any arguments: causes 1 to 4 first, then 8 for a position past the end.
@@ -99,7 +95,7 @@ fn read_with(
     v: &mut [f32],
     e: &mut [i32],
     x: &mut [u16],
-) -> FieldResult
+) -> Result<FieldEnd, Refusal>
     requires gains_len { length gains.old ≡ 256 }
     requires v_len { (length v.old ≡ 1536) × (length e.old ≡ 1536) × (length x.old ≡ 256) }
     ensures reads { Reads (field_answer (8 * length src.now)) (found hebap.now start end
@@ -110,28 +106,12 @@ fn read_with(
         (found hebap.now start end (call src.now (bit_at pos) values.old exact.old indices.old)) }
 {
     let short = too_short(end, values.len(), exact.len(), indices.len());
-    let k = channel::row_cause(hebap, start, end, short);
-    if k != 0 {
-        return FieldResult::Refused(k);
+    channel::check_row(hebap, start, end, short)?;
+    if !pos.has_bits(src.len(), 1, 0) {
+        return Err(Refusal::InputEnds);
     }
-    if pos.has_bits(src.len(), 1, 0) {
-        read_known(
-            src,
-            pos.advance(1, 0),
-            hebap,
-            start,
-            end,
-            values,
-            exact,
-            indices,
-            gains,
-            v,
-            e,
-            x,
-        )
-    } else {
-        FieldResult::Refused(answers::INPUT_ENDS)
-    }
+    let pos = pos.advance(1, 0);
+    read_known(src, pos, hebap, start, end, values, exact, indices, gains, v, e, x)
 }
 
 // How many bits lie between two positions.
@@ -141,32 +121,6 @@ fn bits_between(p: BitPos, q: BitPos) -> u32
 {
     let byte = p.byte + (p.bit / 8) as usize;
     ((q.byte - byte) * 8) as u32 + q.bit - p.bit % 8
-}
-
-// The answer: zeros beside a refusal.
-fn answer(r: FieldResult, gains: [u8; 256], pos: BitPos) -> ChannelRead
-    requires { Near pos r }
-    ensures { result ≡ answer_with gains pos r }
-{
-    match r {
-        FieldResult::Refused(k) => {
-            let zeros = channel::no_gains();
-            ChannelRead {
-                refusal: k,
-                mode: 0,
-                gains: zeros,
-                count: 0,
-                bits: 0,
-            }
-        }
-        FieldResult::Done(mode, count, next) => ChannelRead {
-            refusal: 0,
-            mode,
-            gains,
-            count,
-            bits: bits_between(pos, next),
-        },
-    }
 }
 
 // Reads the field of the bins start to end - 1, where hebap is the row: six f32, six exact values (in units of 2^-30)
@@ -181,7 +135,7 @@ pub fn read_aht_channel(
     values: &mut [f32],
     exact: &mut [i32],
     indices: &mut [u16],
-) -> ChannelRead
+) -> Result<ChannelRead, Refusal>
     ensures value { result ≡ answer_to hebap.now start end
         (call src.now (bit_at pos) values.old exact.old indices.old) }
     ensures values_after { values.new ≡ values_after hebap.now start end
@@ -195,8 +149,13 @@ pub fn read_aht_channel(
     let mut v = [0.0f32; 1536];
     let mut e = [0i32; 1536];
     let mut x = [0u16; 256];
-    let r = read_with(
+    let field = read_with(
         src, pos, hebap, start, end, values, exact, indices, &mut gains, &mut v, &mut e, &mut x,
-    );
-    answer(r, gains, pos)
+    )?;
+    Ok(ChannelRead {
+        mode: field.mode,
+        gains,
+        count: field.count,
+        bits: bits_between(pos, field.pos),
+    })
 }

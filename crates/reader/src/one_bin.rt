@@ -8,7 +8,8 @@ ghost use Rattle.bits.specs.Format.{move_answer};
 ghost use Rattle.channel.specs.Field.{book, scalar, lenient, item, bin_of};
 ghost use Rattle.reader.specs.Work.{bits_from, Reads, outputs, Long, BinPut};
 
-use bits::{BitMove, BitPos};
+use answers::Refusal;
+use bits::BitPos;
 use gains::Coding;
 
 // The vector at an index, as f32 and as exact values, and the index go to the bin's places.
@@ -39,7 +40,7 @@ pub fn read_index(
     values: &mut [f32],
     exact: &mut [i32],
     indices: &mut [u16],
-) -> BitMove
+) -> Result<BitPos, Refusal>
     requires le_hebap { (1 ≤ hebap) × (hebap ≤ 7) }
     requires inside { Inside (8 * length src.now) pos }
     requires bin_bound { (bin < 256) × Long (bin + 1) (outputs values.old exact.old indices.old) }
@@ -52,14 +53,11 @@ pub fn read_index(
     if byte + 4 <= src.len() {
         let i = pos.peek_word(src, n);
         put_index(hebap, i, bin, values, exact, indices);
-        return BitMove::Done(pos.advance_bits(n));
+        return Ok(pos.advance_bits(n));
     }
-    if !pos.has_bits(src.len(), 1, n as usize) {
-        return BitMove::Refused(answers::INPUT_ENDS);
-    }
-    let i = pos.peek(src, n);
+    let (i, next) = pos.read_u32(src, n)?;
     put_index(hebap, i, bin, values, exact, indices);
-    BitMove::Done(pos.advance_bits(n))
+    Ok(next)
 }
 
 // Zeros for a bin that has no bits in the field.
@@ -70,12 +68,8 @@ pub fn put_zeros(bin: usize, values: &mut [f32], exact: &mut [i32], indices: &mu
     ensures indices_after { indices.new ≡ splice indices.old bin (0 ∷ []) }
 {
     let at = 6 * bin;
-    let mut j: usize = 0;
-    while j < 6 {
-        values[at + j] = 0.0f32;
-        exact[at + j] = 0;
-        j += 1;
-    }
+    values[at..at + 6].copy_from_slice(&[0.0; 6]);
+    exact[at..at + 6].copy_from_slice(&[0; 6]);
     indices[bin] = 0;
 }
 
@@ -89,7 +83,7 @@ pub fn read_codes(
     values: &mut [f32],
     exact: &mut [i32],
     indices: &mut [u16],
-) -> BitMove
+) -> Result<BitPos, Refusal>
     requires le_hebap { (8 ≤ hebap) × (hebap ≤ 19) }
     requires inside { Inside (8 * length src.now) pos }
     requires bin_bound { (bin < 256) × Long (bin + 1) (outputs values.old exact.old indices.old) }
@@ -113,7 +107,7 @@ pub fn read_bin(
     values: &mut [f32],
     exact: &mut [i32],
     indices: &mut [u16],
-) -> BitMove
+) -> Result<BitPos, Refusal>
     requires hebap_bound { hebap ≤ 19 }
     requires inside { Inside (8 * length src.now) pos }
     requires bin_bound { (bin < 256) × Long (bin + 1) (outputs values.old exact.old indices.old) }
@@ -124,7 +118,7 @@ pub fn read_bin(
     match gains::coding_of(mode, hebap) {
         Coding::Nothing => {
             put_zeros(bin, values, exact, indices);
-            BitMove::Done(pos)
+            Ok(pos)
         }
         Coding::Book => read_index(src, pos, hebap, bin, values, exact, indices),
         Coding::Fixed => read_codes(src, pos, hebap, 1, bin, values, exact, indices),

@@ -8,8 +8,9 @@ ghost use Rattle.channel.specs.Field.{lenient, item, bins_of, behind_mode, field
 ghost use Rattle.channel.specs.Shown.{bins_in};
 ghost use Rattle.reader.specs.Work.{bits_from, Reads, outputs, Long, BinsPut, GainsPut, behind_answer, field_answer};
 
-use super::{FieldResult, gain_words, one_bin};
-use bits::{BitMove, BitPos, BitRead};
+use super::{FieldEnd, gain_words, one_bin};
+use answers::Refusal;
+use bits::BitPos;
 
 // The bins start to end - 1: values, exact values and indices go to the bins' places.
 pub fn read_bins(
@@ -23,7 +24,7 @@ pub fn read_bins(
     values: &mut [f32],
     exact: &mut [i32],
     indices: &mut [u16],
-) -> BitMove
+) -> Result<BitPos, Refusal>
     requires row_ok { RowOk row.now start end }
     requires inside { Inside (8 * length src.now) pos }
     requires long { Long end (outputs values.old exact.old indices.old) }
@@ -35,33 +36,13 @@ pub fn read_bins(
 {
     let mut p = pos;
     let mut n: usize = 0;
-    let mut bin = start;
-    while bin < end {
+    for bin in start..end {
         let hebap = row[bin];
         let gk = channel::gain_at(gains, n);
-        let r = one_bin::read_bin(
-            src,
-            p,
-            mode,
-            hebap,
-            gk,
-            bin,
-            &mut *values,
-            &mut *exact,
-            &mut *indices,
-        );
-        match r {
-            BitMove::Refused(k) => {
-                return BitMove::Refused(k);
-            }
-            BitMove::Done(next) => {
-                n += channel::gains_used(mode, hebap);
-                p = next;
-                bin += 1;
-            }
-        }
+        p = one_bin::read_bin(src, p, mode, hebap, gk, bin, &mut *values, &mut *exact, &mut *indices)?;
+        n += channel::gains_used(mode, hebap);
     }
-    BitMove::Done(p)
+    Ok(p)
 }
 
 // The gain words and the bins, behind the two bits of the mode.
@@ -76,7 +57,7 @@ pub fn read_behind(
     values: &mut [f32],
     exact: &mut [i32],
     indices: &mut [u16],
-) -> FieldResult
+) -> Result<FieldEnd, Refusal>
     requires mode_bound { mode ≤ 3 }
     requires row_ok { RowOk row.now start end }
     requires inside { Inside (8 * length src.now) pos }
@@ -89,28 +70,13 @@ pub fn read_behind(
         (outputs values.new exact.new indices.new) c.1) }
 {
     let n = channel::count_active(row, start, end, mode);
-    let g = gain_words::read_gains(src, pos, mode, n, &mut *gains);
-    match g {
-        BitMove::Refused(k) => FieldResult::Refused(k),
-        BitMove::Done(next) => {
-            let b = read_bins(
-                src,
-                next,
-                mode,
-                row,
-                start,
-                end,
-                &gains[..n],
-                values,
-                exact,
-                indices,
-            );
-            match b {
-                BitMove::Refused(k) => FieldResult::Refused(k),
-                BitMove::Done(last) => FieldResult::Done(mode, n, last),
-            }
-        }
-    }
+    let next = gain_words::read_gains(src, pos, mode, n, &mut *gains)?;
+    let last = read_bins(src, next, mode, row, start, end, &gains[..n], values, exact, indices)?;
+    Ok(FieldEnd {
+        mode,
+        count: n,
+        pos: last,
+    })
 }
 
 // A whole field: the gains go to the front of theirs, the rest to the bins' places.
@@ -124,7 +90,7 @@ pub fn read_field(
     values: &mut [f32],
     exact: &mut [i32],
     indices: &mut [u16],
-) -> FieldResult
+) -> Result<FieldEnd, Refusal>
     requires row_ok { RowOk row.now start end }
     requires inside { Inside (8 * length src.now) pos }
     requires gains_len { length gains.old ≡ 256 }
@@ -134,11 +100,6 @@ pub fn read_field(
         × BinsPut start (bins_in row.now start end c) (outputs values.old exact.old indices.old)
         (outputs values.new exact.new indices.new) c.items) }
 {
-    let m = pos.read_u32(src, 2);
-    match m {
-        BitRead::Refused(k) => FieldResult::Refused(k),
-        BitRead::Number(mode, next) => read_behind(
-            src, next, mode as u8, row, start, end, gains, values, exact, indices,
-        ),
-    }
+    let (mode, next) = pos.read_u32(src, 2)?;
+    read_behind(src, next, mode as u8, row, start, end, gains, values, exact, indices)
 }

@@ -1,5 +1,4 @@
 -- `reader::gain_words::read_gain_bits` meets its contract. The invariant is GainWords.SoFar. Assumes nothing.
-use Prim.Native.Nat.{◌-◌}
 use Rattle.bits.specs.Bits.{bit_at}
 use Rattle.channel.specs.Field.{gain_words}
 use Rattle.reader.proofs.GainWords.{SoFar}
@@ -7,6 +6,3 @@ use Rattle.reader.proofs.gain_words.read_gain_bits.Given as goal
 
 abbrev pub invariant-loop-i : goal.invariant-loop-i
 invariant-loop-i l = SoFar (gain_words l.mode) l.n l.src (bit_at l.initial.p) l.initial.gains l.p l.i l.gains
-
-abbrev pub decreases-loop-i : goal.decreases-loop-i
-decreases-loop-i l = l.n - l.i

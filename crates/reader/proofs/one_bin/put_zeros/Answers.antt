@@ -1,30 +1,17 @@
 -- `reader::one_bin::put_zeros` meets its contract. Assumes nothing.
 use Prim.Native.Nat.{◌*◌}
-use mathlib.Core.Path.{◌≡◌, refl, sym, ◌∙◌}
+use mathlib.Core.Path.{◌≡◌, sym, ap, ◌∙◌}
 use native.Mathlib.Omega.{arith}
-use lib.IntN.{pos}
-use lib.ListN.{length-set}
-use Rattle.bits.proofs.Laws.{splice_none, splice_one}
-use Rattle.levels.specs.Value.{f0}
-use Rattle.reader.proofs.Items.{alike_more}
+use lib.ListN.{length}
+use Rattle.bits.proofs.Copying.{part_put}
+use Rattle.bits.proofs.Laws.{splice_one}
 use Rattle.reader.proofs.one_bin.put_zeros.Goals as goal
 
-pub loop-j-init : goal.loop-j-init
-loop-j-init c = let a = c.args in
-    (omega arith, refl, refl, sym (splice_none a.values.now (6 * a.bin)), sym (splice_none a.exact.now (6 * a.bin)))
+pub returns-clause-values_after : goal.returns-clause-values_after
+returns-clause-values_after c = rw c.copy_from_slice.ensures.after (part_put c.args.values.now _ (6 * c.args.bin) _ (omega arith))
 
-pub loop-j-preserved : goal.loop-j-preserved
-loop-j-preserved c = let l = c.loop-j in
-    let a = c.args in (
-      omega arith,
-      rw length-set l.invariant.1,
-      rw length-set l.invariant.2,
-      rw l.invariant.3 (alike_more a.values.now (6 * a.bin) l.j f0 (omega arith)),
-      rw l.invariant.4 (alike_more a.exact.now (6 * a.bin) l.j (pos 0) (omega arith)),
-    )
+pub returns-clause-exact_after : goal.returns-clause-exact_after
+returns-clause-exact_after c = rw c.copy_from_slice-2.ensures.after (part_put c.args.exact.now _ (6 * c.args.bin) _ (omega arith))
 
-pub returns : goal.returns
-returns c = let l = c.loop-j in
-    let a = c.args in
-    let six : l.j ≡ 6 = omega arith in
-    record { values_after = l.invariant.3 ∙ rw six; exact_after = l.invariant.4 ∙ rw six; indices_after = sym (splice_one a.indices.now a.bin 0 (omega arith)) }
+pub returns-clause-indices_after : goal.returns-clause-indices_after
+returns-clause-indices_after c = let w = c.requires.1 in sym (splice_one c.args.indices.now c.args.bin 0 (omega arith))

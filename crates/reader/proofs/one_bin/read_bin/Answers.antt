@@ -3,7 +3,7 @@ use Rattle.channel.proofs.Codings.{coded_bin}
 use mathlib.Core.Path.{sym, ap, ◌∙◌}
 use Rattle.bits.proofs.Reading.{pos_is}
 use Rattle.gains.specs.declared.Coding.{Coding}
-use Rattle.bits.specs.declared.BitMove.{BitMove}
+use Rattle.std.specs.Prelude.{Ok}
 use Rattle.reader.proofs.one_bin.read_bin.Goals as goal
 
 pub read_index-requires : goal.read_index-requires
@@ -18,7 +18,7 @@ read_codes-requires-in-Adaptive c = record { le_hebap = ((coded_bin c.args.mode 
 pub returns-in-Nothing : goal.returns-in-Nothing
 returns-in-Nothing c = let e = c.put_zeros.ensures in
     rw (coded_bin c.args.mode c.args.hebap c.args.gk Coding.Nothing c.requires.hebap_bound (sym c.coding_of.ensures ∙ c.in-Nothing.is)).1
-    (record { is = ap BitMove.Done (sym (pos_is c.args.src.now c.args.pos c.requires.inside)); left = (e.values_after, e.exact_after, e.indices_after) })
+    (record { is = ap Ok (sym (pos_is c.args.src.now c.args.pos c.requires.inside)); left = (e.values_after, e.exact_after, e.indices_after) })
 
 pub returns-in-Book : goal.returns-in-Book
 returns-in-Book c = rw (coded_bin c.args.mode c.args.hebap c.args.gk Coding.Book c.requires.hebap_bound (sym c.coding_of.ensures ∙ c.in-Book.is)).1 c.read_index.ensures

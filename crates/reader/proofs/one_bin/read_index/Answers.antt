@@ -1,17 +1,20 @@
 -- `reader::one_bin::read_index` meets its contract. Assumes nothing.
 use Prim.Native.Nat.{◌+◌, ◌*◌, ◌^◌, ◌≤◌, ◌<◌}
-use mathlib.Core.Path.{refl, sym, ap, ◌∙◌}
+use mathlib.Core.Path.{◌≡◌, refl, sym, ap}
 use native.Mathlib.Omega.{arith}
 use borrow.Author.Rules.{rules}
-use borrow.Author.Tests.{leb-true, leb-false}
-use lib.ListN.{length}
-use Rattle.bits.specs.Bits.{bit_at}
+use lib.ListN.{length, drop}
+use Rattle.bits.specs.Bits.{bits_of, bit_at, Inside}
 use Rattle.bits.proofs.Reading.{pos_is}
 use Rattle.tables.proofs.Rules.{vq_bits_lem}
-use Rattle.bits.specs.declared.BitMove.{BitMove}
-use Rattle.reader.proofs.Items.{index_missing, index_there, index_small}
+use Rattle.std.specs.Prelude.{Ok}
+use Rattle.answers.proofs.Numbers.{passed_on}
+use Rattle.tables.specs.Tables.{vq_bits}
+use Rattle.bits.specs.Format.{got}
+use Rattle.channel.specs.Field.{book, index, lenient, item}
+use Rattle.reader.proofs.Items.{index_refused, index_read, index_there, index_small, number_is}
 use Rattle.reader.proofs.one_bin.read_index.Goals as goal
-use Rattle.reader.proofs.one_bin.read_index.Goals.{After-vq_bits-n, Else-not-has_bits, Then-byte-src}
+use Rattle.reader.proofs.one_bin.read_index.Goals.{After-vq_bits-n, In_ok-i, Then-byte-src}
 
 -- an index has 2 to 9 bits
 wide : (k : After-vq_bits-n) → (2 ≤ k.vq_bits-n.result) × (k.vq_bits-n.result ≤ 9)
@@ -44,35 +47,28 @@ returns-then-byte-src c = let a = c.args in
     let e = c.put_index.ensures in
     let q = c.advance_bits in
     let r = index_there a.hebap c.vq_bits-n.result a.src.now a.pos c.vq_bits-n.ensures (ahead (goal.at.returns-then-byte-src c).Then-byte-src) c.peek_word-i.result c.peek_word-i.ensures q.result q.ensures in
-    rw r.0 (record { is = ap BitMove.Done (sym (pos_is a.src.now q.result r.1)); left = (e.values_after, e.exact_after, e.indices_after) })
+    rw r.0 (record { is = ap Ok (sym (pos_is a.src.now q.result r.1)); left = (e.values_after, e.exact_after, e.indices_after) })
 
 -- ---- near the end
-pub returns-then-not-has_bits : goal.returns-then-not-has_bits
-returns-then-not-has_bits c = let a = c.args in
-    let f : 8 * length a.src.now < bit_at a.pos + 1 * c.vq_bits-n.result = leb-false _ _ (sym c.has_bits.ensures ∙ c.if-not-has_bits.true) in
-    rw (index_missing a.hebap c.vq_bits-n.result a.src.now a.pos c.vq_bits-n.ensures c.requires.inside.0 (omega arith)) (record { is = refl; left = tt })
+pub returns-in_err-i : goal.returns-in_err-i
+returns-in_err-i c =
+    let a = c.args in
+    rw (passed_on c.from_residual.ensures, index_refused a.hebap c.vq_bits-n.result a.src.now a.pos c.vq_bits-n.ensures _ (number_is a.hebap c.vq_bits-n.result a.src.now a.pos c.vq_bits-n.ensures c.requires.inside.0 _ _ c.read_u32.ensures c.in_err-i.was))
+    (record { is = refl; left = tt })
 
--- the bits are there
-there : (c : Else-not-has_bits) → let a = c.args in bit_at a.pos + c.vq_bits-n.result ≤ 8 * length a.src.now
+-- the index that was read, and the position behind it
+there : (c : In_ok-i) → let a = c.args in
+    ((item lenient (book a.hebap)).dec (drop (bit_at a.pos) (bits_of a.src.now)) ≡ got (index c.in_ok-i.i) (drop (bit_at c.in_ok-i.next) (bits_of a.src.now)))
+    × Inside (8 * length a.src.now) c.in_ok-i.next × (c.in_ok-i.i < 2 ^ vq_bits a.hebap)
 there c =
     let a = c.args in
-    let f : bit_at a.pos + 1 * c.vq_bits-n.result ≤ 8 * length a.src.now = leb-true _ _ (sym c.has_bits.ensures ∙ c.if-not-has_bits.false) in
-    omega arith
-
-pub peek-i-requires : goal.peek-i-requires
-peek-i-requires c = let n = wide (goal.at.peek-i-requires c).After-vq_bits-n in (omega arith, there c)
+    index_read a.hebap c.vq_bits-n.result a.src.now a.pos c.vq_bits-n.ensures c.requires.inside.0 _ c.in_ok-i.i c.in_ok-i.next c.read_u32.ensures c.in_ok-i.was
 
 pub put_index-requires-2 : goal.put_index-requires-2
-put_index-requires-2 c = let i = index_small c.args.hebap c.vq_bits-n.result c.args.src.now c.args.pos c.vq_bits-n.ensures c.peek-i.result c.peek-i.ensures in
-    record { le_hebap = (c.requires.le_hebap.0, c.requires.le_hebap.1, i); bin_bound = c.requires.bin_bound }
-
-pub advance_bits-requires-2 : goal.advance_bits-requires-2
-advance_bits-requires-2 c = let n = wide (goal.at.advance_bits-requires-2 c).After-vq_bits-n in
-    (c.requires.inside.1, omega arith, below (goal.at.advance_bits-requires-2 c).After-vq_bits-n)
+put_index-requires-2 c = record { le_hebap = (c.requires.le_hebap.0, c.requires.le_hebap.1, (there (goal.at.put_index-requires-2 c).In_ok-i).2); bin_bound = c.requires.bin_bound }
 
 pub returns : goal.returns
-returns c = let a = c.args in
+returns c =
     let e = c.put_index-2.ensures in
-    let q = c.advance_bits-2 in
-    let r = index_there a.hebap c.vq_bits-n.result a.src.now a.pos c.vq_bits-n.ensures (there (goal.at.returns c).Else-not-has_bits) c.peek-i.result c.peek-i.ensures q.result q.ensures in
-    rw r.0 (record { is = ap BitMove.Done (sym (pos_is a.src.now q.result r.1)); left = (e.values_after, e.exact_after, e.indices_after) })
+    let r = there (goal.at.returns c).In_ok-i in
+    rw r.0 (record { is = ap Ok (sym (pos_is c.args.src.now c.in_ok-i.next r.1)); left = (e.values_after, e.exact_after, e.indices_after) })
