@@ -94,7 +94,9 @@ pub fn any_too_large(x: &[f32]) -> bool
 {
     let mut found = false;
     for &component in x {
-        found |= !in_range(component);
+        if !in_range(component) {
+            found = true;
+        }
     }
     found
 }

@@ -43,7 +43,7 @@ pub peek_word-u-requires : goal.peek_word-u-requires
 peek_word-u-requires c = let b = both_widths c.args.s in search rules
 
 pub overflow_sub-s : goal.overflow_sub-s
-overflow_sub-s c = (both_widths c.args.s).one
+overflow_sub-s c = let b = both_widths c.args.s in omega arith
 
 pub pow2-requires : goal.pow2-requires
 pow2-requires c = let b = both_widths c.args.s in omega arith
