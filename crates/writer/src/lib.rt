@@ -14,6 +14,7 @@ ghost use Rattle.writer.specs.Work.{Room, Puts, bin_enc, bins_enc, gains_enc, co
 use bits::{BitMove, BitPos};
 use gains::Coding;
 use planner::Plan;
+use quantiser::Steps;
 
 // What write_aht_channel answers: the position behind the field, or the number of the refusal.
 #[derive(Clone, Copy)]
@@ -42,10 +43,10 @@ fn write_six(out: &mut [u8], p: BitPos, hebap: u8, gk: u8, x: &[f32]) -> BitPos
     requires room { Room (bin_enc (scalar hebap gk) x.now) p out.old }
     ensures { Puts (bin_enc (scalar hebap gk) x.now) p result out.old out.new }
 {
-    let st = quantiser::steps_of(hebap, gk);
+    let steps = Steps::new(hebap, gk);
     let mut q = p;
     for &component in x {
-        let w = quantiser::word(st, component);
+        let w = steps.word(component);
         q = put(&mut *out, q, w.bits, w.width);
     }
     q

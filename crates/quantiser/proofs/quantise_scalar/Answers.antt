@@ -11,13 +11,13 @@ hebap_range : (c : Then-in_range) → (8 ≤ c.args.hebap) × (c.args.hebap ≤ 
 hebap_range c =
     allowed_range c.args.hebap c.args.gk (sym c.allows.ensures ∙ c.if-allows.true)
 
-pub steps_of-requires : goal.steps_of-requires
-steps_of-requires c = hebap_range c
+pub new-requires : goal.new-requires
+new-requires c = hebap_range c
 
 pub returns-then-in_range : goal.returns-then-in_range
 unfolding quantised_up_to
 returns-then-in_range c = let r = c.in_range in
-    let n = c.steps_of.ensures in
+    let n = c.new.ensures in
     let e = rw (n.0, n.1) at c.pick-code.ensures in
     rw (e, sym c.allows.ensures ∙ c.if-allows.true, not-true (too_large c.args.x) (sym r.ensures ∙ c.if-in_range.true))
 
