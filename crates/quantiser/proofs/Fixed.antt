@@ -1,9 +1,8 @@
 -- What a hebap and a gain fix: the parts of `Steps`, what they mean, and how large they get. Assumes nothing.
-use Rattle.std.proofs.Common.{◌≡◌, ℕ, ◌-◌, ◌^◌, ◌≤◌, eqb, ℤ, pos, negsuc, sym, refl, ap, ◌∙◌, subst, arith, pow_pos, le-ltb, ne_eqb}
+use Rattle.std.proofs.Common.{◌≡◌, ℕ, ◌-◌, ◌^◌, ◌≤◌, eqb, ℤ, pos, negsuc, sym, ap, ◌∙◌, arith, pow_pos, le-ltb, ne_eqb}
 use lib.Ieee.{Float, binary32, div}
 use Rattle.tables.proofs.Rules.{mant_bits_lem}
 use Rattle.tables.specs.Tables.{mant_bits}
-use Rattle.levels.specs.Codes.{small_bits, large_bits}
 use Rattle.levels.specs.Value.{f1, power, gaq_remap, scaled}
 use Rattle.levels.specs.Work.{remap_of}
 use Rattle.levels.specs.declared.Remap.{Remap}
@@ -76,3 +75,6 @@ fixed st =
       small_range = omega (arith, st.small_is, s);
       large_range = omega (arith, st.large_is, l);
     }
+
+pub n_few : (st : Steps) → st.n ≤ 16
+n_few st = (fixed st).n_range.1

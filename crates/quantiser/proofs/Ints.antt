@@ -1,8 +1,10 @@
 -- Signed numbers: passed on, one less and one more, negated, held to a range, as bits. Assumes nothing.
-use Rattle.std.proofs.Common.{◌≡◌, ℕ, zero, suc, ◌-◌, ◌^◌, ◌<◌, ◌≤◌, Bool, true, false, cond, ◌&&◌, T, leb, ℤ, pos, negsuc, ◌+ℤ◌, ◌-ℤ◌, neg_ℤ, nat_abs, sym, refl, ap, ◌∙◌, true≢false, mod-lt, mod-eq_of_lt, arith, pow_pos, pow_mono, w32, w64, Fits, SFits, to_z, of_z, ltb-false, ltb-true, le-ltb, leb-true}
-use lib.IntN.{suc_ℤ, pred_ℤ, +ℤ_one, -ℤ_one, +ℤ_idl}
-use lib.Signed.{mag, lt_z, non_neg}
+use Rattle.std.proofs.Common.{◌≡◌, ℕ, zero, suc, ◌-◌, ◌^◌, ◌<◌, ◌≤◌, Bool, true, false, cond, ◌&&◌, leb, ℤ, pos, negsuc, ◌-ℤ◌, neg_ℤ, nat_abs, sym, refl, ap, ◌∙◌, true≢false, mod-lt, mod-eq_of_lt, arith, pow_pos, pow_mono, w32, w64, SFits, to_z, of_z, ltb-false, ltb-true, leb-true}
+use lib.IntN.{pred_ℤ, -ℤ_one, +ℤ_idl}
+use lib.Signed.{mag, lt_z, ◌≤ℤ◌}
 use mir.ValLaws.{to_z-of_z, to_z_pos}
+use Rattle.std.specs.Int.{int_max, int_min}
+use Rattle.std.proofs.lemmas.Int.{ints}
 use Rattle.levels.specs.Codes.{signed}
 use Rattle.levels.proofs.Signed.{back, pow2_cap, halves, signed_low, signed_high}
 use Rattle.levels.proofs.Sizes.{mag_abs, abs_neg}
@@ -33,17 +35,9 @@ less_mag (pos zero) = omega arith
 less_mag (pos (suc n)) = omega arith
 less_mag (negsuc n) = omega arith
 
-more_mag : (z : ℤ) → mag (suc_ℤ z) ≤ suc (mag z)
-more_mag (pos n) = omega arith
-more_mag (negsuc zero) = omega arith
-more_mag (negsuc (suc n)) = omega arith
-
 module _ (z : ℤ) (h : mag z < 2 ^ 40) where
   pub less_fits : SFits w64 (z -ℤ pos 1)
   less_fits = record { sfits = rw (-ℤ_one z) (let l = less_mag z in omega arith) }
-
-  pub more_fits : SFits w64 (z +ℤ pos 1)
-  more_fits = record { sfits = rw (+ℤ_one z) (let l = more_mag z in omega arith) }
 
 -- ---- an unsigned number that is cast, and its negation
 pub cast_is : (n : ℕ) {m : ℕ} → n < 2 ^ 63 → n ≡ m → to_z w64 n ≡ pos m
@@ -66,9 +60,6 @@ pub minus_back : (n : ℕ) {m : ℕ} → n < 2 ^ 63 → n ≡ m → held (minus 
 minus_back n h e = to_z-of_z w64 (minus n) (minus_fits n h) ∙ minus_is n h ∙ ap (λ (k : ℕ). neg_ℤ (pos k)) e
 
 -- ---- powers of two
-pub power_range : (n t : ℕ) → n ≤ 16 → t ≡ 2 ^ n → (1 ≤ t) × (t ≤ 65536)
-power_range n t h e = rw e (pow_pos n, pow2_cap n h)
-
 pub top_under : (n : ℕ) → mag (pos (2 ^ n - 1)) < 2 ^ n
 top_under n = let p = pow_pos n in omega arith
 
@@ -81,7 +72,21 @@ bottom_under n = neg_under (2 ^ n) (2 ^ n) (omega arith) (pow_pos n)
 pub held_24 : (n : ℕ) (z : ℤ) {y : ℤ} → n ≤ 16 → mag z < 2 ^ 63 → z ≡ y → mag y < 2 ^ n → mag (held z) < 2 ^ 24
 held_24 n z h f e l = let c = pow2_cap n h in held_under z (2 ^ 24) f e (omega arith)
 
+-- ---- 2 ^ n, and the ends of the ranges of levels
+module _ (n : ℕ) (full : ℤ) (few : n ≤ 16) (e : full ≡ pos (2 ^ n)) where
+  pub top_is : held (held full -ℤ pos 1) ≡ pos (2 ^ n - 1)
+  top_is = let c = pow2_cap n few in let p = pow_pos n in rw e (omega (arith, ints))
+
+  pub bottom_is : held (pos 0 -ℤ held full) ≡ neg_ℤ (pos (2 ^ n))
+  bottom_is = let c = pow2_cap n few in let p = pow_pos n in rw e (omega (arith, ints))
+
+  pub opposite_is : held (pos 0 -ℤ held (held full -ℤ pos 1)) ≡ neg_ℤ (pos (2 ^ n - 1))
+  opposite_is = let c = pow2_cap n few in let p = pow_pos n in rw e (omega (arith, ints))
+
 -- ---- held to a range
+pub clamp_is : (lo hi z : ℤ) → lo ≤ℤ hi → int_max lo (int_min z hi) ≡ clamp_z lo hi z
+clamp_is lo hi z h = grind (arith, ints)
+
 module _ (lo hi : ℤ) where
   -- what holds of both ends and of what lies between
   clamp_keeps : (P : ℤ → Type 0) → P lo → P hi → ((z : ℤ) → lt_z z lo ≡ false → lt_z hi z ≡ false → P z) → (z : ℤ) → P (clamp_z lo hi z)
@@ -151,34 +156,3 @@ signed_bits w (negsuc n) h l =
 pub bits_not_lowest : (w : ℕ) (z : ℤ) → 1 ≤ w → nat_abs z < 2 ^ (w - 1) → to_bits w z ≡ 2 ^ (w - 1) → ⊥
 bits_not_lowest w (pos n) h l e = let t = halves w h in let b = bits_pos w n (omega arith) in omega arith
 bits_not_lowest w (negsuc n) h l e = let t = halves w h in let b = bits_neg w n (omega arith) in omega arith
-
--- what to_bits computes: the sum fits, and is v's bits
-pub record InBits (w : ℕ) (v z : ℤ) : Type 0 where
-  pub sum_fits : SFits w64 z
-  pub cast : T (non_neg (held z)) × Fits w32 (nat_abs (held z))
-  pub right : nat_abs (held z) ≡ to_bits w v
-
-in_bits : (w k : ℕ) (v : ℤ) → w ≤ 16 → k ≡ to_bits w v → InBits w v (pos k)
-in_bits w k v h e =
-    let b = bits_under w v in
-    let c = pow2_cap w h in
-    let f : SFits w64 (pos k) = record { sfits = omega arith } in
-    let same = to_z-of_z w64 (pos k) f in
-    record { sum_fits = f; cast = rw same (tt, record { fits = omega arith }); right = rw same e }
-
-pub in_bits_above : (w : ℕ) (v : ℤ) → w ≤ 16 → mag v < 2 ^ w → SFits w64 v → lt_z (held v) (pos 0) ≡ false → InBits w v v
-in_bits_above w v h l f t = go v l (rw (to_z-of_z w64 v f) at t)
-  where
-    go : (y : ℤ) → mag y < 2 ^ w → lt_z y (pos 0) ≡ false → InBits w y y
-    go (pos k) l t = in_bits w k (pos k) h (sym (bits_pos w k l))
-    go (negsuc k) l t = absurd (true≢false t)
-
--- 2 ^ w + v, for a v below 0
-pub in_bits_below : (w p : ℕ) (v : ℤ) → w ≤ 16 → p ≡ 2 ^ w → mag v < 2 ^ w → SFits w64 v → lt_z (held v) (pos 0) ≡ true → InBits w v (to_z w64 p +ℤ held v)
-in_bits_below w p v h e l f t =
-    let c = pow2_cap w h in
-    rw (to_z-of_z w64 v f, cast_is p (omega arith) e) (go v l (rw (to_z-of_z w64 v f) at t))
-  where
-    go : (y : ℤ) → mag y < 2 ^ w → lt_z y (pos 0) ≡ true → InBits w y (pos (2 ^ w) +ℤ y)
-    go (pos k) l t = absurd (let z = ltb-true k 0 t in omega arith)
-    go (negsuc k) l t = rw (le-ltb (2 ^ w) (suc k) l) (in_bits w (2 ^ w - suc k) (negsuc k) h (sym (bits_neg w k l)))

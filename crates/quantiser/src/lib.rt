@@ -98,53 +98,56 @@ fn unit(remap: Remap, part: f32, gk: u8) -> f32
     reals::at_least(probes::value(remap, part, 1) - probes::value(remap, part, 0))
 }
 
-pub fn steps_of(hebap: u8, gk: u8) -> Steps
-    requires { (8 ≤ hebap) × (hebap ≤ 19) }
-    ensures { (result.hebap ≡ hebap) × (result.gk ≡ gk) }
-{
-    let m = levels::mant(hebap);
-    let large = levels::large_bits(m, gk);
-    let n = large - 1;
-    let remap = levels::remap_of(hebap, gk);
-    let part = 1.0 / levels::scale(n);
-    Steps {
-        hebap,
-        gk,
-        remap,
-        n,
-        part,
-        unit: unit(remap, part, gk),
-        zero: probes::value(remap, part, 0),
-        below: probes::value(remap, part, -1),
-        whole: levels::scale(m - 1),
-        small: levels::small_bits(m, gk),
-        large,
+impl Steps {
+    pub fn new(hebap: u8, gk: u8) -> Steps
+        requires { (8 ≤ hebap) × (hebap ≤ 19) }
+        ensures { (result.hebap ≡ hebap) × (result.gk ≡ gk) }
+    {
+        let m = levels::mant(hebap);
+        let large = levels::large_bits(m, gk);
+        let n = large - 1;
+        let remap = levels::remap_of(hebap, gk);
+        let part = 1.0 / levels::scale(n);
+        Steps {
+            hebap,
+            gk,
+            remap,
+            n,
+            part,
+            unit: unit(remap, part, gk),
+            zero: probes::value(remap, part, 0),
+            below: probes::value(remap, part, -1),
+            whole: levels::scale(m - 1),
+            small: levels::small_bits(m, gk),
+            large,
+        }
     }
-}
 
-// The same code as one number, its tag with it.
-pub fn word(st: Steps, x: f32) -> CodeWord
-    ensures bits_value { result.bits ≡ word_of (mant_bits st.hebap) st.gk (picked st.hebap st.gk x).0 }
-    ensures width_value { result.width ≡ code_bits (mant_bits st.hebap) st.gk (picked st.hebap st.gk x).0 }
-{
-    if st.gk == 1 {
-        let k = pick::search_one(st, x);
-        return CodeWord {
-            bits: integers::to_bits(k, st.large),
-            width: st.large,
-        };
-    }
-    let s = pick::small_level(st, x);
-    if pick::is_small(st.small, s) {
-        return CodeWord {
-            bits: integers::to_bits(s, st.small),
-            width: st.small,
-        };
-    }
-    let k = pick::search_large(st, x);
-    CodeWord {
-        bits: bits::pow2(st.small - 1) * bits::pow2(st.large) + integers::to_bits(k, st.large),
-        width: st.small + st.large,
+    // The code that is picked for x as one number, its tag with it.
+    pub fn word(self, x: f32) -> CodeWord
+        ensures bits_value { result.bits ≡ word_of (mant_bits self.hebap) self.gk (picked self.hebap self.gk x).0 }
+        ensures width_value { result.width ≡ code_bits (mant_bits self.hebap) self.gk (picked self.hebap self.gk x).0 }
+    {
+        if self.gk == 1 {
+            let k = self.search_one(x);
+            return CodeWord {
+                bits: integers::to_bits(k, self.large),
+                width: self.large,
+            };
+        }
+        let s = self.small_level(x);
+        if pick::is_small(self.small, s) {
+            return CodeWord {
+                bits: integers::to_bits(s, self.small),
+                width: self.small,
+            };
+        }
+        let k = self.search_large(x);
+        CodeWord {
+            bits: bits::pow2(self.small - 1) * bits::pow2(self.large)
+                + integers::to_bits(k, self.large),
+            width: self.small + self.large,
+        }
     }
 }
 
@@ -179,7 +182,7 @@ pub fn quantise_scalar(hebap: u8, gk: u8, x: f32) -> Result<CodeLevel, Refusal>
     if !levels::in_range(x) {
         return Err(Refusal::Component);
     }
-    Ok(pick::pick(steps_of(hebap, gk), x))
+    Ok(Steps::new(hebap, gk).pick(x))
 }
 
 // ---- a bin
@@ -190,11 +193,11 @@ fn fill(hebap: u8, gk: u8, x: &[f32], values: &mut [f32]) -> Sums
     requires x_len { (length x.now ≡ 6) × (length values.old ≡ 6) }
     ensures { (values.new ≡ bin_values hebap gk x.now) × (result.bits ≡ codes_bits hebap gk x.now) × (result.err ≡ error_from hebap gk f0 x.now) }
 {
-    let st = steps_of(hebap, gk);
+    let steps = Steps::new(hebap, gk);
     let mut bits: u32 = 0;
     let mut err: f32 = 0.0;
     for (j, &component) in x.iter().enumerate() {
-        let CodeLevel { code, level } = pick::pick(st, component);
+        let CodeLevel { code, level } = steps.pick(component);
         let y = levels::value_of(level);
         let d = y - component;
         bits += levels::code_bits(hebap, gk, code);

@@ -1,13 +1,6 @@
-// Rust's `abs` and `max` of floats.
+// Rust's `max` of floats: std's leaves open which of two equal ones is taken.
 ghost use Rattle.std.specs.Prelude.{◌≡◌};
-ghost use Rattle.quantiser.specs.Quantise.{f1e_9, abs_f, max_f};
-
-pub fn abs(x: f32) -> f32
-    ensures { result ≡ abs_f x }
-{
-    let y = if x < 0.0 { -x } else { x };
-    if y == 0.0 { 0.0 } else { y }
-}
+ghost use Rattle.quantiser.specs.Quantise.{f1e_9, max_f};
 
 // a.max(1e-9)
 pub fn at_least(a: f32) -> f32

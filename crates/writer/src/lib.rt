@@ -14,6 +14,7 @@ use answers::Refusal;
 use bits::BitPos;
 use gains::Coding;
 use planner::Plan;
+use quantiser::Steps;
 
 // The low n bits of v, where there is room for them; the position behind them.
 fn put(out: &mut [u8], p: BitPos, v: u32, n: u32) -> BitPos
@@ -32,10 +33,10 @@ fn write_six(out: &mut [u8], p: BitPos, hebap: u8, gk: u8, x: &[f32]) -> BitPos
     requires room { Room (bin_enc (scalar hebap gk) x.now) p out.old }
     ensures { Puts (bin_enc (scalar hebap gk) x.now) p result out.old out.new }
 {
-    let st = quantiser::steps_of(hebap, gk);
+    let steps = Steps::new(hebap, gk);
     let mut q = p;
     for &component in x {
-        let w = quantiser::word(st, component);
+        let w = steps.word(component);
         q = put(&mut *out, q, w.bits, w.width);
     }
     q

@@ -8,7 +8,7 @@ pub loop-j-init : goal.loop-j-init
 loop-j-init c = done_none c.args.hebap c.args.gk c.args.x.now c.args.values.now (c.requires.x_len.1 ∙ sym c.requires.x_len.0)
 
 pub loop-j-preserved : goal.loop-j-preserved
-loop-j-preserved c = let n = c.steps_of-st.ensures in
+loop-j-preserved c = let n = c.new-steps.ensures in
     done_more c.args.hebap c.args.gk c.args.x.now c.loop-j.values c.loop-j.bits c.loop-j.err c.loop-j.j nan c.loop-j.invariant (omega arith)
     c.pick-code.result c.value_of-y.result c.code_bits-bits.result (rw (n.0, n.1) at c.pick-code.ensures) c.value_of-y.ensures c.code_bits-bits.ensures
 

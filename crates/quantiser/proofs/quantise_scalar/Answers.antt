@@ -19,12 +19,12 @@ unfolding quantised_up_to
 returns-then-not-in_range c =
     rw (sym c.allows.ensures ∙ c.if-not-allows.false, not-false (too_large c.args.x) (sym c.in_range.ensures ∙ c.if-not-in_range.true))
 
-pub steps_of-requires : goal.steps_of-requires
-steps_of-requires c = hebap_range (goal.at.steps_of-requires c).Else-not-allows
+pub new-requires : goal.new-requires
+new-requires c = hebap_range (goal.at.new-requires c).Else-not-allows
 
 pub returns : goal.returns
 unfolding quantised_up_to
 returns c =
-    let n = c.steps_of.ensures in
+    let n = c.new.ensures in
     let e = rw (n.0, n.1) at c.pick.ensures in
     rw (e, sym c.allows.ensures ∙ c.if-not-allows.false, not-true (too_large c.args.x) (sym c.in_range.ensures ∙ c.if-not-in_range.false))

@@ -24,7 +24,7 @@ word_is : (c : After-word-w) → let a = c.args in
     let code = (picked a.hebap a.gk (get_or a.x.now c.loop-component.component-index nan)).0 in
     (c.word-w.result.bits ≡ word_of (mant_bits a.hebap) a.gk code) × (c.word-w.result.width ≡ code_bits (mant_bits a.hebap) a.gk code)
 word_is c =
-    let n = c.steps_of-st.ensures in
+    let n = c.new-steps.ensures in
     let e = rw (n.0, n.1) at c.word-w.ensures in
     (e.bits_value, e.width_value)
 

@@ -1,9 +1,9 @@
--- `quantiser::steps_of` meets its contract. Assumes nothing.
+-- `quantiser::Steps::new` meets its contract. Assumes nothing.
 use Rattle.std.proofs.Common.{◌-◌, ◌≤◌, arith, lit<}
 use Rattle.tables.proofs.Rules.{mant_bits_lem}
 use Rattle.quantiser.proofs.Fixed.{scale_range}
-use Rattle.quantiser.proofs.steps_of.Goals as goal
-use Rattle.quantiser.proofs.steps_of.Goals.{After-large_bits-large, After-mant-m}
+use Rattle.quantiser.proofs.Steps.new.Goals as goal
+use Rattle.quantiser.proofs.Steps.new.Goals.{After-large_bits-large, After-mant-m}
 
 bits : (c : After-mant-m) → (3 ≤ c.mant-m.result) × (c.mant-m.result ≤ 16)
 bits c = rw c.mant-m.ensures (mant_bits_lem c.args.hebap c.requires.0 c.requires.1)
