@@ -1,5 +1,8 @@
 -- The answer to what fills the input is that to all of the text: both are too long.
 use Rattle.std.proofs.Common.{◌≡◌, ℕ, ◌<◌, List, [], ◌++◌, None, Some, IfSome, inl, inr, arith, sym, ap, ◌∙◌, subst, length, take, length-append, append-nil, length-take-le}
+use mathlib.Core.Bool.{true≢false}
+use Rattle.std.specs.Result.{is_ok, OnOk}
+use Rattle.std.proofs.Common.{Result, Ok, Err}
 use Rattle.std.proofs.lemmas.Bool.{cases_lt}
 use Rattle.std.specs.declared.option.Option.{Option}
 use Rattle.std.specs.Io.KnownBytes.{Appends}
@@ -38,3 +41,9 @@ answered v old new before after buf out {n} {k} {put} e r long is written =
     let ys = desk_answer v (take n buf) in
     let first : take k put ≡ ys = rw (long, is) (splice_read out ys 0 (omega arith)) in
     whole v old new buf n (Appends before after) e r (subst (Appends before after) first written)
+
+-- what a written answer says where only the error is another
+pub on_ok : {A B C D P Q : Type 0} (r : Result A B) (s : Result C D) → is_ok s ≡ is_ok r → (P → Q) → OnOk r P → OnOk s Q
+on_ok (Ok x) (Ok y) e f p = f p
+on_ok (Err x) (Ok y) e f p = absurd (true≢false e)
+on_ok r (Err y) e f p = tt

@@ -53,18 +53,12 @@ pub fn answer<R: Read, W: Write>(reader: &mut R, writer: &mut W, view: View) -> 
     ensures unread { result ≡ Err Fault.Unread → Keeps (W.contents writer.old) (W.contents writer.new) }
 {
     let mut input = [0u8; 65537];
-    let got = read_input(reader, &mut input);
-    match got {
-        Ok(n) => {
-            let mut out = [0u8; 32768];
-            let k = desktext::desk_from(view, &input, n, &mut out);
-            match print(writer, &out, k) {
-                Ok(()) => Ok(()),
-                Err(_) => Err(Fault::Unwritten),
-            }
-        }
-        Err(_) => Err(Fault::Unread),
-    }
+    let Ok(n) = read_input(reader, &mut input) else {
+        return Err(Fault::Unread);
+    };
+    let mut out = [0u8; 32768];
+    let k = desktext::desk_from(view, &input, n, &mut out);
+    print(writer, &out, k).map_err(|_| Fault::Unwritten)
 }
 
 // What went wrong, behind the program's name. Where it cannot be written either nobody is told.

@@ -2,21 +2,21 @@
 use Prim.Native.Nat.{ℕ, zero, suc, ◌+◌, ◌-◌, ◌*◌, ◌≤◌, ◌<◌}
 use mathlib.Core.Path.{subst, ◌≡◌, refl, sym, ap, ◌∙◌}
 use mathlib.Core.List.{List, [], ◌∷◌, ◌++◌, append_assoc, append-nil, map}
-use mathlib.Core.Bool.{Bool, true, false, cond}
+use mathlib.Core.Bool.{Bool, true, false, cond, not, ◌&&◌}
+use lib.Pointwise.{pointwise}
+use Rattle.std.specs.Option.{option_eq}
 use native.Mathlib.Omega.{arith}
-use native.Mathlib.Numerals.{add-one, add-one-le}
+use Rattle.std.proofs.Common.{Option, Some, None}
+use native.Mathlib.Numerals.{add-one}
 use lib.ListN.{length, take, drop, get_or, length-drop}
 use lib.Seq.{take-suc, drop-drop, get_or-drop}
-use lib.Dec.{leb, eqb}
-use lib.Arith.{lt_of_le-ne}
-use borrow.Author.Tests.{le-leb, lt-leb, eq-eqb, ne_eqb, leb-true, leb-false}
+use lib.Dec.{eqb}
+use borrow.Author.Tests.{le-leb, lt-leb, eq-eqb, ne_eqb, eqb-true, eqb-false}
 use Rattle.desktext.specs.Spelling.{largest, last_number, channel_token, bins_token, row_token, vector_token, close_token}
 use Rattle.desktext.specs.Channel.{Part, part, missing, lead, items, numbers, vectors, closes, none, on_vectors, on_row, on_bins, channel_from}
-use Rattle.desktext.specs.Work.{vector_numbers, EndsIn, part_in, Holds, Stands}
-use Rattle.desktext.specs.declared.Counted.{Counted}
-use Rattle.desktext.specs.declared.Counted.TheVariants.{Count, Broken}
+use Rattle.desktext.specs.Work.{vector_numbers, EndsIn, Holds}
 use Rattle.desktext.proofs.ChannelTokens.{all_at, numbers_sole}
-use Rattle.desktext.proofs.Laws.{none_at, one_at, part_long, part_at}
+use Rattle.desktext.proofs.Laws.{no_true, none_at, one_at, part_long, part_at}
 
 lead_lead : (xs ys : List ℕ) (p : Part) → lead xs (lead ys p) ≡ lead (xs ++ ys) p
 lead_lead xs ys (part zs r) = ap (λ (l : List ℕ). part l r) (sym (append_assoc xs ys zs))
@@ -80,17 +80,15 @@ NumbersAt ts at name low high n =
     (part (take n (drop (at + 1) ts)) (drop (at + 1 + n + 1) ts) ≡ numbers name low high (drop at ts)) × (at + 1 + n < length ts)
     × ((i : ℕ) → i < n → (low ≤ get_or ts (at + 1 + i) 0) × (get_or ts (at + 1 + i) 0 ≤ high))
 
-pub holds_count : (ts : List ℕ) (at name low high : ℕ) (r : Counted) (n : ℕ) → Holds ts at (numbers name low high (drop at ts)) r → r ≡ Count n
-    → NumbersAt ts at name low high n
-holds_count ts at name low high r n h e =
-    let a : part_in ts at (Count n) ≡ numbers name low high (drop at ts) = rw e at h.shown in
-    let b : EndsIn ts at (Count n) = rw e at h.within in
+pub holds_count : (name low high : ℕ) {ts : List ℕ} {at n : ℕ} → Holds ts at (numbers name low high (drop at ts)) (Some n) → NumbersAt ts at name low high n
+holds_count name low high {ts} {at} {n} h =
+    let b : EndsIn ts at (Some n) = h.within in
     let l : length (take n (drop (at + 1) ts)) ≡ n = part_long ts (at + 1) n (omega arith) in
-    let m = (numbers_sole name low high (drop at ts) _ _ (sym a)).1 in
-    (a, b, λ i k. subst (λ (x : ℕ). (low ≤ x) × (x ≤ high)) (part_at ts (at + 1) n i k) (all_at low high (take n (drop (at + 1) ts)) i m (omega arith)))
+    let m = (numbers_sole name low high (drop at ts) _ _ (sym h.shown)).1 in
+    (h.shown, b, λ i k. subst (λ (x : ℕ). (low ≤ x) × (x ≤ high)) (part_at ts (at + 1) n i k) (all_at low high (take n (drop (at + 1) ts)) i m (omega arith)))
 
-pub holds_none : (ts : List ℕ) (at : ℕ) (there : Part) (r : Counted) → Holds ts at there r → r ≡ Broken → missing ≡ there
-holds_none ts at there r h e = rw e at h.shown
+pub holds_nothing : {ts : List ℕ} {at : ℕ} {there : Part} {r : Option ℕ} → r ≡ None → there ≡ missing → Holds ts at there r
+holds_nothing e h = rw e record { shown = sym h; within = tt }
 
 -- one more vector's numbers
 vector_numbers_suc : (i : ℕ) (s : List ℕ) → vector_numbers (suc i) s ≡ vector_numbers i s ++ take 6 (drop (8 * i + 1) s)
@@ -114,20 +112,25 @@ vectors_six : (m : ℕ) (s v r : List ℕ) → part v r ≡ numbers vector_token
 unfolding vectors
 vectors_six m s v r e n = rw (← e, eq-eqb (length v) 6 n)
 
-closes_end : (ts : List ℕ) (p : ℕ) → p ≤ length ts → (length ts - p ≡ 1 → ⊥) → closes (drop p ts) ≡ false
+-- the last bracket stands alone
+closes_is : (s : List ℕ) → pointwise eqb s (close_token ∷ []) ≡ closes s
 unfolding closes
-closes_end ts p h n = go (leb (length ts) p) refl
+closes_is [] = refl
+closes_is (t ∷ []) = go (eqb t close_token)
   where
-    go : (b : Bool) → leb (length ts) p ≡ b → closes (drop p ts) ≡ false
-    go true e = rw (none_at ts p (leb-true _ _ e))
-    go false e =
-        let a : p < length ts = leb-false _ _ e in
-        let b : p + 1 < length ts = lt_of_le-ne (add-one-le a) (λ f. n (omega arith)) in
-        rw (one_at ts p a, one_at ts (p + 1) b)
+    go : (b : Bool) → (b && true) ≡ b
+    go true = refl
+    go false = refl
+closes_is (t ∷ u ∷ s) = go (eqb t close_token)
+  where
+    go : (b : Bool) → (b && false) ≡ false
+    go true = refl
+    go false = refl
 
-closes_one : (ts : List ℕ) (p : ℕ) → p ≤ length ts → length ts - p ≡ 1 → closes (drop p ts) ≡ eqb (get_or ts p 0) close_token
+closes_some : (s : List ℕ) → closes s ≡ true → 0 < length s
 unfolding closes
-closes_one ts p h e = rw (one_at ts p (omega arith), none_at ts (p + 1) (omega arith))
+closes_some [] e = no_true e
+closes_some (t ∷ s) e = omega arith
 
 -- vectors one after the other: i of them stand from `at` on, up to p
 module _ (ts : List ℕ) (at n i p : ℕ) (there : Part) (so : there ≡ lead (vector_numbers i (drop at ts)) (vectors (n - i) (drop p ts))) (here : p ≡ at + 8 * i) where
@@ -135,7 +138,7 @@ module _ (ts : List ℕ) (at n i p : ℕ) (there : Part) (so : there ≡ lead (v
     count : n - i ≡ suc (n - (i + 1))
     count = omega arith
 
-    pub vectors_halt : missing ≡ numbers vector_token 0 last_number (drop p ts) → there ≡ missing
+    vectors_halt : missing ≡ numbers vector_token 0 last_number (drop p ts) → there ≡ missing
     vectors_halt e =
         let a : vectors (n - i) (drop p ts) ≡ missing = rw count (vectors_none (n - (i + 1)) (drop p ts) e) in
         so ∙ ap (lead (vector_numbers i (drop at ts))) a
@@ -144,17 +147,17 @@ module _ (ts : List ℕ) (at n i p : ℕ) (there : Part) (so : there ≡ lead (v
       long : length (take k (drop (p + 1) ts)) ≡ k
       long = part_long ts (p + 1) k (omega arith)
 
-      pub vectors_uneven : (k ≡ 6 → ⊥) → there ≡ missing
+      vectors_uneven : (k ≡ 6 → ⊥) → there ≡ missing
       vectors_uneven e =
           let a : vectors (n - i) (drop p ts) ≡ missing = rw count (vectors_off (n - (i + 1)) (drop p ts) _ _ is (λ f. e (sym long ∙ f))) in
           so ∙ ap (lead (vector_numbers i (drop at ts))) a
 
-      pub vectors_turn : k ≡ 6 → there ≡ lead (vector_numbers (i + 1) (drop at ts)) (vectors (n - (i + 1)) (drop (p + 8) ts))
+      vectors_turn : k ≡ 6 → there ≡ lead (vector_numbers (i + 1) (drop at ts)) (vectors (n - (i + 1)) (drop (at + 8 * (i + 1)) ts))
       vectors_turn e =
           let a : vectors (n - i) (drop p ts) ≡ lead (take k (drop (p + 1) ts)) (vectors (n - (i + 1)) (drop (p + 1 + k + 1) ts)) =
           rw count (vectors_six (n - (i + 1)) (drop p ts) _ _ is (long ∙ e)) in
           let z : at + (8 * i + 1) ≡ p + 1 = omega arith in
-          let y : p + 1 + k + 1 ≡ p + 8 = omega arith in
+          let y : p + 1 + k + 1 ≡ at + 8 * (i + 1) = omega arith in
           let d : drop (8 * i + 1) (drop at ts) ≡ drop (p + 1) ts = drop-drop (8 * i + 1) at ts ∙ ap (λ (j : ℕ). drop j ts) z in
           let b : vector_numbers (i + 1) (drop at ts) ≡ vector_numbers i (drop at ts) ++ take 6 (drop (p + 1) ts) =
           ap (λ (j : ℕ). vector_numbers j (drop at ts)) (add-one i) ∙ vector_numbers_suc i (drop at ts) ∙ ap (λ (l : List ℕ). vector_numbers i (drop at ts) ++ take 6 l) d in
@@ -162,28 +165,41 @@ module _ (ts : List ℕ) (at n i p : ℕ) (there : Part) (so : there ≡ lead (v
           ∙ lead_lead (vector_numbers i (drop at ts)) (take k (drop (p + 1) ts)) (vectors (n - (i + 1)) (drop (p + 1 + k + 1) ts))
           ∙ rw (y, b, e)
 
-  module _ (all : i ≡ n) (within : p ≤ length ts) where
-    last : (b : Bool) → closes (drop p ts) ≡ b → cond b (part (vector_numbers n (drop at ts)) []) missing ≡ there
+    -- what a test for six numbers says
+    pub vectors_stop : (r : Option ℕ) → Holds ts p (numbers vector_token 0 last_number (drop p ts)) r → true ≡ not (option_eq eqb r (Some 6)) → there ≡ missing
+    vectors_stop None h e = vectors_halt h.shown
+    vectors_stop (Some k) h e = vectors_uneven k h.shown h.within (eqb-false k 6 (go (eqb k 6) e))
+      where
+        go : (b : Bool) → true ≡ not b → b ≡ false
+        go true f = no_true (sym f)
+        go false f = refl
+
+    pub vectors_next : (r : Option ℕ) → Holds ts p (numbers vector_token 0 last_number (drop p ts)) r → false ≡ not (option_eq eqb r (Some 6))
+        → (at + 8 * (i + 1) ≤ length ts) × (there ≡ lead (vector_numbers (i + 1) (drop at ts)) (vectors (n - (i + 1)) (drop (at + 8 * (i + 1)) ts)))
+    vectors_next None h e = no_true e
+    vectors_next (Some k) h e = let z : k ≡ 6 = eqb-true k 6 (go (eqb k 6) e) in let f : p + 1 + k < length ts = h.within in (omega arith, vectors_turn k h.shown h.within z)
+      where
+        go : (b : Bool) → false ≡ not b → b ≡ true
+        go true f = refl
+        go false f = no_true f
+
+  module _ (all : i ≡ n) where
+    last : (b : Bool) → closes (drop p ts) ≡ b → (cond b (part (vector_numbers n (drop at ts)) []) missing ≡ there) × cond b (at + 8 * n < length ts) (Unit {0})
     unfolding vectors
     last true e =
         let z : n - i ≡ 0 = omega arith in
-        sym (so ∙ rw (z, vectors, e, all) (ap (λ (l : List ℕ). part l []) (append-nil (vector_numbers n (drop at ts)))))
+        let k = closes_some (drop p ts) e in
+        (sym (so ∙ rw (z, vectors, e, all) (ap (λ (l : List ℕ). part l []) (append-nil (vector_numbers n (drop at ts))))), omega (arith, length-drop p ts))
     last false e =
         let z : n - i ≡ 0 = omega arith in
-        sym (so ∙ rw (z, vectors, e))
+        (sym (so ∙ rw (z, vectors, e)), tt)
 
-    pub vectors_cut : (length ts - p ≡ 1 → ⊥) → missing ≡ there
-    vectors_cut e = last false (closes_end ts p within e)
+    pub vectors_last : (r : Bool) → r ≡ pointwise eqb (drop p ts) (close_token ∷ []) → (cond r (part (vector_numbers n (drop at ts)) []) missing ≡ there) × cond r (at + 8 * n < length ts) (Unit {0})
+    vectors_last r e = last r (sym (e ∙ closes_is (drop p ts)))
 
-    pub vectors_open : length ts - p ≡ 1 → (get_or ts p 0 ≡ close_token → ⊥) → missing ≡ there
-    vectors_open e f = last false (closes_one ts p within e ∙ ne_eqb (get_or ts p 0) close_token f)
-
-    pub vectors_done : length ts - p ≡ 1 → get_or ts p 0 ≡ close_token → part (vector_numbers n (drop at ts)) [] ≡ there
-    vectors_done e f = last true (closes_one ts p within e ∙ eq-eqb (get_or ts p 0) close_token f)
-
-pub vectors_start : (ts : List ℕ) (at n : ℕ) → vectors n (drop at ts) ≡ lead (vector_numbers 0 (drop at ts)) (vectors (n - 0) (drop at ts))
+pub vectors_start : (ts : List ℕ) (at n : ℕ) → vectors n (drop at ts) ≡ lead (vector_numbers 0 (drop at ts)) (vectors (n - 0) (drop (at + 8 * 0) ts))
 unfolding vector_numbers
-vectors_start ts at n = let z : n - 0 ≡ n = omega arith in rw z (sym (lead_nil (vectors n (drop at ts))))
+vectors_start ts at n = let z : n - 0 ≡ n = omega arith in let y : at + 8 * 0 ≡ at = omega arith in rw (z, y) (sym (lead_nil (vectors n (drop at ts))))
 
 -- a channel by its cases
 pub channel_empty : (ts : List ℕ) → length ts ≡ 0 → channel_from ts ≡ none
@@ -234,12 +250,3 @@ module _ (ts : List ℕ) (so : channel_from ts ≡ on_row (get_or ts 2 0 - large
     channel_rest g p f =
         let z : 6 + n + 1 ≡ n + 7 = omega arith in
         so ∙ ap (on_row (get_or ts 2 0 - largest) (get_or ts 3 0 - largest)) (sym row) ∙ rw (many, le-leb n 256 g, z, ← f)
-
-pub stands_true : (ts : List ℕ) (at n : ℕ) (r : Bool) → Stands ts at n r → r ≡ true → (part (vector_numbers n (drop at ts)) [] ≡ vectors n (drop at ts)) × (at + 8 * n < length ts)
-stands_true ts at n r s e =
-    let a : cond true (part (vector_numbers n (drop at ts)) []) missing ≡ vectors n (drop at ts) = rw e at s.shown in
-    let b : cond true (at + 8 * n < length ts) (Unit {0}) = rw e at s.within in
-    (a, b)
-
-pub stands_false : (ts : List ℕ) (at n : ℕ) (r : Bool) → Stands ts at n r → r ≡ false → missing ≡ vectors n (drop at ts)
-stands_false ts at n r s e = rw e at s.shown

@@ -2,18 +2,19 @@
 use Prim.Native.Nat.{ℕ, suc, ◌+◌, ◌-◌, ◌*◌, ◌≤◌, ◌<◌}
 use mathlib.Core.Path.{◌≡◌, refl, sym, ap, ◌∙◌}
 use mathlib.Core.List.{List, [], ◌∷◌}
-use mathlib.Core.Bool.{true≢false, Bool, true, false}
+use mathlib.Core.Bool.{true≢false, Bool, true, false, cond, ◌&&◌}
 use native.Mathlib.Numerals.{add-one}
+use Rattle.std.proofs.Common.{Option, Some, None}
 use native.Mathlib.Omega.{arith}
 use lib.ListN.{length, take, drop, get_or, length-drop, drop_of_length-le}
-use lib.Seq.{drop-cons, drop-drop, length-take-le, get_or-take, get_or-drop}
+use lib.Pointwise.{pointwise}
+use lib.Seq.{take_all, drop-cons, drop-drop, length-take-le, get_or-take, get_or-drop}
+use mathlib.Core.Logic.{◌⊎◌, inl, inr}
 use lib.Dec.{eqb}
 use borrow.Author.Tests.{le-leb, lt-leb, eq-eqb, ne_eqb}
 use Rattle.desktext.specs.Spelling.{largest, last_number, close_token}
 use Rattle.desktext.specs.Text.{Seen, seen, unseen, or_else, leads, named, digits, natural, above, below, number_seen, item_head, bracket, closing}
-use Rattle.desktext.specs.Work.{Finds, seen_in, IsAhead}
-use Rattle.desktext.specs.declared.Found.{Found}
-use Rattle.desktext.specs.declared.Found.TheVariants.{At, Absent}
+use Rattle.desktext.specs.Work.{Finds, IsAhead}
 
 pub no_true : {A : Type 0} → false ≡ true → A
 no_true e = absurd (true≢false (sym e))
@@ -32,45 +33,31 @@ pub part_at : (ts : List ℕ) (at n i : ℕ) → i < n → get_or (take n (drop 
 part_at ts at n i h = get_or-take n (drop at ts) i 0 h ∙ get_or-drop at ts i 0
 
 -- what is found further on is found here, where the same is to be seen
-ahead_from : (low low' end limit : ℕ) (r : Found) → low ≤ low' → IsAhead low' end limit r → IsAhead low end limit r
-ahead_from low low' end limit (At t q) h a = (omega arith, a.1, a.2)
-ahead_from low low' end limit Absent h a = tt
+ahead_from : (low low' end limit : ℕ) (r : Option (ℕ × ℕ)) → low ≤ low' → IsAhead low' end limit r → IsAhead low end limit r
+ahead_from low low' end limit (Some (t, q)) h a = (omega arith, a.1, a.2)
+ahead_from low low' end limit None h a = tt
 
-pub further : (s : List ℕ) (low low' limit : ℕ) (here there : Seen) (r : Found) → low ≤ low' → here ≡ there → Finds s low' limit there r → Finds s low limit here r
+pub further : (s : List ℕ) (low low' limit : ℕ) (here there : Seen) (r : Option (ℕ × ℕ)) → low ≤ low' → here ≡ there → Finds s low' limit there r → Finds s low limit here r
 further s low low' limit here there r h e f = record { shown = f.shown ∙ sym e; onward = ahead_from low low' (length s) limit r h f.onward }
 
--- what an answer says of what is to be seen
-abbrev pub FoundAt : List ℕ → ℕ → ℕ → Seen → ℕ → ℕ → Type 0
-FoundAt s low limit there t q = (seen t (drop q s) ≡ there) × (low ≤ q) × (q ≤ length s) × (t ≤ limit)
-
-pub finds_at : (s : List ℕ) (low limit : ℕ) (there : Seen) (r : Found) (t q : ℕ) → Finds s low limit there r → r ≡ At t q → FoundAt s low limit there t q
-finds_at s low limit there r t q f e =
-    let a : seen_in s (At t q) ≡ there = rw e at f.shown in
-    let b : IsAhead low (length s) limit (At t q) = rw e at f.onward in
-    (a, b.0, b.1, b.2)
-
-pub finds_none : (s : List ℕ) (low limit : ℕ) (there : Seen) (r : Found) → Finds s low limit there r → r ≡ Absent → unseen ≡ there
-finds_none s low limit there r f e = rw e at f.shown
+-- nothing is found where nothing is to be seen
+pub finds_nothing : {s : List ℕ} {low limit : ℕ} {there : Seen} {r : Option (ℕ × ℕ)} → r ≡ None → there ≡ unseen → Finds s low limit there r
+finds_nothing e h = rw e record { shown = sym h; onward = tt }
 
 -- words
-module _ (w s : List ℕ) (at k : ℕ) where
-  pub leads_done : length w ≤ k → leads (drop k w) (drop (at + k) s) ≡ true
-  unfolding leads
-  leads_done h = rw (none_at w k h)
+pub leads_is : (w s : List ℕ) → leads w s ≡ pointwise eqb w (take (length w) s)
+unfolding leads
+leads_is [] s = refl
+leads_is (x ∷ w) [] = refl
+leads_is (x ∷ w) (y ∷ s) = go (eqb x y) (leads_is w s)
+  where
+    go : (b : Bool) → leads w s ≡ pointwise eqb w (take (length w) s) → cond b (leads w s) false ≡ (b && pointwise eqb w (take (length w) s))
+    go true e = e
+    go false e = refl
 
-  pub leads_short : k < length w → length s ≤ at + k → leads (drop k w) (drop (at + k) s) ≡ false
-  unfolding leads
-  leads_short h e = rw (one_at w k h, none_at s (at + k) e)
-
-  pub leads_differ : k < length w → at + k < length s → (get_or w k 0 ≡ get_or s (at + k) 0 → ⊥) → leads (drop k w) (drop (at + k) s) ≡ false
-  unfolding leads
-  leads_differ h i n = rw (one_at w k h, one_at s (at + k) i, ne_eqb (get_or w k 0) (get_or s (at + k) 0) n)
-
-  pub leads_more : k < length w → at + k < length s → get_or w k 0 ≡ get_or s (at + k) 0 → leads (drop k w) (drop (at + k) s) ≡ leads (drop (k + 1) w) (drop (at + (k + 1)) s)
-  unfolding leads
-  leads_more h i e =
-      let a : at + (k + 1) ≡ at + k + 1 = omega arith in
-      rw (one_at w k h, one_at s (at + k) i, eq-eqb (get_or w k 0) (get_or s (at + k) 0) e, a)
+-- the bytes from a place on, to the end
+pub rest_is : {A : Type 0} (s : List A) (at : ℕ) → take (length s - at) (drop at s) ≡ drop at s
+rest_is s at = take_all (length s - at) (drop at s) (omega (arith, length-drop at s))
 
 leads_fits : (w s : List ℕ) → leads w s ≡ true → length w ≤ length s
 unfolding leads
@@ -87,7 +74,7 @@ word_fits w s at h e = let i : length w ≤ length (drop at s) = leads_fits w (d
 
 -- names
 pub name_found : (s w : List ℕ) (at t : ℕ) → at ≤ length s → leads w (drop at s) ≡ true → named (drop at s) ≡ seen t (drop (length w) (drop at s)) → 1 ≤ length w → t ≤ close_token
-    → Finds s (at + 1) close_token (named (drop at s)) (At t (at + length w))
+    → Finds s (at + 1) close_token (named (drop at s)) (Some (t, at + length w))
 name_found s w at t h l e i k = record { shown = sym (e ∙ ap (seen t) (drop-drop (length w) at s)); onward = (omega arith, word_fits w s at h l, k) }
 
 -- a place's byte by cases
@@ -124,13 +111,10 @@ module _ (s : List ℕ) (at : ℕ) where
   unfolding natural
   natural_zero h e = rw (one_at s at h, eq-eqb (get_or s at 0) 48 e)
 
-  pub natural_low : at < length s → get_or s at 0 < 48 → natural (drop at s) ≡ unseen
+  pub natural_other : at < length s → (get_or s at 0 ≡ 48 → ⊥) → (get_or s at 0 < 48) ⊎ ((48 ≤ get_or s at 0) × (57 < get_or s at 0)) → natural (drop at s) ≡ unseen
   unfolding natural
-  natural_low h e = rw (one_at s at h, ne_eqb (get_or s at 0) 48 (λ f. omega arith), lt-leb 48 (get_or s at 0) e)
-
-  pub natural_high : at < length s → 57 < get_or s at 0 → natural (drop at s) ≡ unseen
-  unfolding natural
-  natural_high h e = rw (one_at s at h, ne_eqb (get_or s at 0) 48 (λ f. omega arith), le-leb 48 (get_or s at 0) (omega arith), lt-leb (get_or s at 0) 57 e)
+  natural_other h n (inl e) = rw (one_at s at h, ne_eqb (get_or s at 0) 48 n, lt-leb 48 (get_or s at 0) e)
+  natural_other h n (inr e) = rw (one_at s at h, ne_eqb (get_or s at 0) 48 n, le-leb 48 (get_or s at 0) e.0, lt-leb (get_or s at 0) 57 e.1)
 
   pub natural_more : at < length s → 48 < get_or s at 0 → get_or s at 0 ≤ 57 → natural (drop at s) ≡ digits (get_or s at 0 - 48) (drop (at + 1) s)
   unfolding natural
@@ -140,13 +124,10 @@ module _ (s : List ℕ) (at : ℕ) where
   unfolding digits
   digits_end v e = rw (none_at s at e)
 
-  pub digits_low : (v : ℕ) → at < length s → get_or s at 0 < 48 → digits v (drop at s) ≡ seen v (drop at s)
+  pub digits_other : (v : ℕ) → at < length s → (get_or s at 0 < 48) ⊎ ((48 ≤ get_or s at 0) × (57 < get_or s at 0)) → digits v (drop at s) ≡ seen v (drop at s)
   unfolding digits
-  digits_low v h e = rw (one_at s at h, lt-leb 48 (get_or s at 0) e)
-
-  pub digits_high : (v : ℕ) → at < length s → 57 < get_or s at 0 → digits v (drop at s) ≡ seen v (drop at s)
-  unfolding digits
-  digits_high v h e = rw (one_at s at h, le-leb 48 (get_or s at 0) (omega arith), lt-leb (get_or s at 0) 57 e)
+  digits_other v h (inl e) = rw (one_at s at h, lt-leb 48 (get_or s at 0) e)
+  digits_other v h (inr e) = rw (one_at s at h, le-leb 48 (get_or s at 0) e.0, lt-leb (get_or s at 0) 57 e.1)
 
   pub digits_large : (v : ℕ) → at < length s → 48 ≤ get_or s at 0 → get_or s at 0 ≤ 57 → largest < v * 10 + (get_or s at 0 - 48) → digits v (drop at s) ≡ unseen
   unfolding digits
@@ -192,22 +173,21 @@ module _ (s : List ℕ) (at : ℕ) where
   unfolding item_head
   head_other h m n = rw (one_at s at h, ne_eqb (get_or s at 0) 32 m, ne_eqb (get_or s at 0) 10 n)
 
-  pub head_space : at < length s → get_or s at 0 ≡ 32 → item_head (drop at s) ≡ or_else (named (drop (at + 1) s)) (number_seen (drop (at + 1) s))
+  pub head_parted : at < length s → ((get_or s at 0 ≡ 32 → ⊥) × (get_or s at 0 ≡ 10)) ⊎ (get_or s at 0 ≡ 32) → item_head (drop at s) ≡ or_else (named (drop (at + 1) s)) (number_seen (drop (at + 1) s))
   unfolding item_head
-  head_space h e = rw (one_at s at h, eq-eqb (get_or s at 0) 32 e)
+  head_parted h (inl e) = rw (one_at s at h, ne_eqb (get_or s at 0) 32 e.0, eq-eqb (get_or s at 0) 10 e.1)
+  head_parted h (inr e) = rw (one_at s at h, eq-eqb (get_or s at 0) 32 e)
 
-  pub head_line : at < length s → get_or s at 0 ≡ 10 → item_head (drop at s) ≡ or_else (named (drop (at + 1) s)) (number_seen (drop (at + 1) s))
-  unfolding item_head
-  head_line h e = rw (one_at s at h, ne_eqb (get_or s at 0) 32 (λ f. omega arith), eq-eqb (get_or s at 0) 10 e)
+pub else_found : (s : List ℕ) (at : ℕ) (f : ℕ × ℕ) (there name other : Seen) → there ≡ or_else name other → Finds s (at + 1 + 1) close_token name (Some f) → Finds s (at + 1) close_token there (Some f)
+else_found s at f there name other e h =
+    let a = h.onward in
+    record { shown = sym (e ∙ ap (λ (x : Seen). or_else x other) (sym h.shown)); onward = (omega arith, a.1, a.2) }
 
-pub else_found : (s : List ℕ) (at t q : ℕ) (there name other : Seen) → there ≡ or_else name other → FoundAt s (at + 1 + 1) close_token name t q → Finds s (at + 1) close_token there (At t q)
-else_found s at t q there name other e h = record { shown = sym (e ∙ ap (λ (x : Seen). or_else x other) (sym h.0)); onward = (omega (arith, h.1), h.2, h.3) }
+ahead_within : (low end limit limit' : ℕ) (r : Option (ℕ × ℕ)) → limit' ≤ limit → IsAhead low end limit' r → IsAhead low end limit r
+ahead_within low end limit limit' (Some (t, q)) h a = (a.0, a.1, omega arith)
+ahead_within low end limit limit' None h a = tt
 
-ahead_within : (low end limit limit' : ℕ) (r : Found) → limit' ≤ limit → IsAhead low end limit' r → IsAhead low end limit r
-ahead_within low end limit limit' (At t q) h a = (a.0, a.1, omega arith)
-ahead_within low end limit limit' Absent h a = tt
-
-pub else_other : (s : List ℕ) (at : ℕ) (there name other : Seen) (r : Found) → there ≡ or_else name other → unseen ≡ name → Finds s (at + 1 + 1) last_number other r
+pub else_other : (s : List ℕ) (at : ℕ) (there name other : Seen) (r : Option (ℕ × ℕ)) → there ≡ or_else name other → unseen ≡ name → Finds s (at + 1 + 1) last_number other r
     → Finds s (at + 1) close_token there r
 else_other s at there name other r e h f =
     record {

@@ -4,24 +4,19 @@ use mathlib.Core.Path.{◌≡◌, refl, sym, ap, ◌∙◌}
 use mathlib.Core.List.{List, [], ◌++◌, map}
 use mathlib.Core.Bool.{Bool, true, false}
 use native.Mathlib.Omega.{arith}
+use Rattle.std.proofs.Common.{Option, Some, None}
 use native.Mathlib.Nat.{le_of_lt}
 use native.Mathlib.Numerals.{add-one}
-use lib.ListN.{length, take, drop, set, get_or, length-drop, length-append, length-map, get_or-append}
+use lib.ListN.{length, take, drop, set, get_or, length-drop, length-append, get_or-append}
 use lib.Seq.{take_all, take-suc, length-take-le, get_or-drop, get_or-append-add}
 use lib.Dec.{leb}
-use lib.Ieee.{Float}
 use borrow.Author.Tests.{le-leb, leb-true, leb-false}
 use Rattle.bits.specs.Bits.{splice}
 use Rattle.bits.proofs.Copying.{put_more}
-use Rattle.desktext.specs.Spelling.{last_number, largest}
-use Rattle.desktext.specs.Text.{tokens, got, malformed}
-use Rattle.desktext.specs.Channel.{part, vectors, TextChannel, none, channel_from, channel_in, text_answer, row_after, vectors_after}
-use Rattle.desktext.specs.Work.{longest, vector_numbers, ListedIn, checked_in, IsFitting, Checks}
-use Rattle.desktext.specs.declared.Counted.{Counted}
-use Rattle.desktext.specs.declared.Counted.TheVariants.{Count, Broken}
-use Rattle.desktext.specs.declared.Checked.{Checked}
-use Rattle.desktext.specs.declared.Checked.TheVariants.{Sound, Unsound}
-use Rattle.desktext.specs.declared.DeskText.{DeskText}
+use Rattle.desktext.specs.Spelling.{last_number}
+use Rattle.desktext.specs.Channel.{part, vectors, TextChannel, none, channel_from, channel_in}
+use Rattle.desktext.specs.Work.{longest, vector_numbers, ListedIn, Checks}
+use Rattle.desktext.specs.declared.Shape.{Shape}
 use Rattle.desktext.proofs.Laws.{part_long, part_at}
 use Rattle.desktext.proofs.ChannelTokens.{all_at, vectors_sole}
 
@@ -74,36 +69,15 @@ six_fit ts at n e h i k =
     let l : length (vector_numbers n (drop at ts)) ≡ 6 * n = length_vector_numbers n (drop at ts) (omega (arith, length-drop at ts)) in
     (all_at 0 last_number (vector_numbers n (drop at ts)) i (vectors_sole n (drop at ts) (vector_numbers n (drop at ts)) [] (sym e)).3 (omega arith)).1
 
--- what the shape's answer says
-pub sound_is : (ts : List ℕ) (there : TextChannel) (r : Checked) (a b n : ℕ) → Checks ts there r → r ≡ Sound a b n → (checked_in ts (Sound a b n) ≡ there) × IsFitting ts (Sound a b n)
-sound_is ts there r a b n s e =
-    let x : checked_in ts (Sound a b n) ≡ there = rw e at s.shown in
-    let y : IsFitting ts (Sound a b n) = rw e at s.fits in
-    (x, y)
-
-pub unsound_is : (ts : List ℕ) (there : TextChannel) (r : Checked) → Checks ts there r → r ≡ Unsound → none ≡ there
-unsound_is ts there r s e = rw e at s.shown
-
-module _ (ts : List ℕ) (a b n : ℕ) (there : TextChannel) (e : checked_in ts (Sound a b n) ≡ there) (h : n + 7 + 8 * n < length ts) where
-  rows : length (map (λ t. t - largest) (take n (drop 6 ts))) ≡ n
-  rows = length-map (take n (drop 6 ts)) (λ t. t - largest) ∙ part_long ts 6 n (omega arith)
-
-  pub filled_answer : DeskText.Channel a b n ≡ text_answer there
-  filled_answer = ap (λ (k : ℕ). DeskText.Channel a b k) (sym rows) ∙ ap text_answer e
-
--- the outputs of one channel
-pub same_outputs : (c d : TextChannel) (row : List ℕ) (vs : List Float) → c ≡ d
-    → (text_answer c ≡ text_answer d) × ((row_after c row ≡ row_after d row) × (vectors_after c vs ≡ vectors_after d vs))
-same_outputs c d row vs e = (rw e, (rw e, rw e))
+-- the tokens are no channel's
+pub checks_nothing : {ts : List ℕ} {there : TextChannel} {r : Option Shape} → r ≡ None → there ≡ none → Checks ts there r
+checks_nothing e h = rw e record { shown = sym h; fits = tt }
 
 -- the channel of a text by its cases
-pub channel_broken : (s out : List ℕ) (r : Counted) → length s ≤ longest → ListedIn s out r → r ≡ Broken → channel_in s ≡ none
+pub channel_broken : (s out : List ℕ) → length s ≤ longest → ListedIn s out None → channel_in s ≡ none
 unfolding channel_in
-channel_broken s out r h l e = let m : tokens s ≡ malformed = rw e at l in rw (le-leb (length s) 65536 (omega arith), m)
+channel_broken s out h l = rw (le-leb (length s) 65536 (omega arith), l)
 
-pub channel_listed : (s out : List ℕ) (r : Counted) (n : ℕ) → length s ≤ longest → ListedIn s out r → r ≡ Count n → (channel_in s ≡ channel_from (take n out)) × (n ≤ length out)
+pub channel_listed : (s out : List ℕ) (n : ℕ) → length s ≤ longest → ListedIn s out (Some n) → channel_in s ≡ channel_from (take n out)
 unfolding channel_in
-channel_listed s out r n h l e =
-    let m : (tokens s ≡ got (take n out)) × (n ≤ length out) = rw e at l in
-    let g = m.0 in
-    (rw (le-leb (length s) 65536 (omega arith), g), m.1)
+channel_listed s out n h l = rw (le-leb (length s) 65536 (omega arith), l.0)

@@ -10,9 +10,7 @@ use lib.Seq.{take-suc-set}
 use borrow.Author.Tests.{le-leb, lt-leb, eq-eqb, ne_eqb}
 use Rattle.desktext.specs.Spelling.{last_number}
 use Rattle.desktext.specs.Text.{seen, unseen, named, item_head, closing, ReadText, got, malformed, after, ending, step, rest, tokens}
-use Rattle.desktext.specs.Work.{FormAt, Reading, StepReads}
-use Rattle.desktext.specs.declared.Step.{Step}
-use Rattle.desktext.specs.declared.Step.TheVariants.{Next, Malformed}
+use Rattle.desktext.specs.Work.{FormAt, Reading}
 use Rattle.desktext.proofs.Laws.{none_at, one_at}
 
 -- tokens before others
@@ -96,17 +94,6 @@ module _ (s : List ℕ) (at levels n : ℕ) (out : List ℕ) (here : FormAt s at
 
   pub on_none : closing (drop at s) ≡ unseen → unseen ≡ item_head (drop at s) → tokens s ≡ malformed
   on_none u e = whole_is malformed (rest_none _ _ _ u (sym e))
-
--- what a step's answer says
-pub reads_next : (s : List ℕ) (at d : ℕ) (out : List ℕ) (r : Step) (q m : ℕ) → StepReads s at d out r → r ≡ Next q m → (at < q) × Reading s q m d out
-reads_next s at d out r q m h e = rw e at h
-
-pub reads_none : (s : List ℕ) (at d : ℕ) (out : List ℕ) (r : Step) → StepReads s at d out r → r ≡ Malformed → tokens s ≡ malformed
-reads_none s at d out r h e = rw e at h
-
-pub reads_from : (s : List ℕ) (at q d d' : ℕ) (out : List ℕ) (r : Step) → at < q → d ≡ d' → StepReads s q d out r → StepReads s at d' out r
-reads_from s at q d d' out (Next p m) h e r = (omega (arith, r.0), rw e at r.1)
-reads_from s at q d d' out Malformed h e r = r
 
 -- the first form
 pub begin_none : (s : List ℕ) → unseen ≡ named s → tokens s ≡ malformed

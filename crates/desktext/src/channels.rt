@@ -6,39 +6,31 @@ ghost use Rattle.desktext.specs.Printed.{component_of};
 ghost use Rattle.desktext.specs.Channel.{numbers, channel_from, text_answer, row_after, vectors_after};
 ghost use Rattle.desktext.specs.Work.{vector_numbers, Holds, Stands, Checks, RowNumbers, VectorsIn};
 
-use super::{
-    BINS, CHANNEL, CLOSE, Checked, Counted, DeskText, LARGEST, LAST_NUMBER, LAST_ROW, ROW, VECTOR,
-};
+use super::{BINS, CHANNEL, CLOSE, DeskText, LARGEST, LAST_NUMBER, LAST_ROW, ROW, Shape, VECTOR};
 
 // How many numbers a vector has.
 const COMPONENTS: usize = 6;
 
-// A form of that name whose items are numbers from low to high.
-fn numbers_at(tokens: &[u32], at: usize, name: u32, low: u32, high: u32) -> Counted
+// How many tokens: these between its name and its closing bracket.
+const VECTOR_TOKENS: usize = COMPONENTS + 2;
+
+// A form of that name whose items are numbers from low to high: how many they are.
+fn numbers_at(tokens: &[u32], at: usize, name: u32, low: u32, high: u32) -> Option<usize>
     requires { at ≤ length tokens.now }
     ensures { Holds tokens.now at (numbers name low high (drop at tokens.now)) result }
 {
-    if at == tokens.len() {
-        return Counted::Broken;
+    if *tokens.get(at)? != name {
+        return None;
     }
-    if tokens[at] != name {
-        return Counted::Broken;
+    for (n, t) in tokens[at + 1..].iter().enumerate() {
+        if *t == CLOSE {
+            return Some(n);
+        }
+        if *t < low || high < *t {
+            return None;
+        }
     }
-    let mut n: usize = 0;
-    while n < tokens.len() - at - 1 {
-        let t = tokens[at + 1 + n];
-        if t == CLOSE {
-            return Counted::Count(n);
-        }
-        if t < low {
-            return Counted::Broken;
-        }
-        if high < t {
-            return Counted::Broken;
-        }
-        n += 1;
-    }
-    Counted::Broken
+    None
 }
 
 // Whether n vectors stand from a place on, and then the last closing bracket.
@@ -46,64 +38,35 @@ fn vectors_at(tokens: &[u32], at: usize, n: usize) -> bool
     requires { (at ≤ length tokens.now) × (n ≤ 256) }
     ensures { Stands tokens.now at n result }
 {
-    let mut p = at;
-    let mut i: usize = 0;
-    while i < n {
-        let six = numbers_at(tokens, p, VECTOR, 0, LAST_NUMBER);
-        match six {
-            Counted::Broken => {
-                return false;
-            }
-            Counted::Count(k) => {
-                if k != COMPONENTS {
-                    return false;
-                }
-                p += 8;
-                i += 1;
-            }
+    for i in 0..n {
+        let six = numbers_at(tokens, at + VECTOR_TOKENS * i, VECTOR, 0, LAST_NUMBER);
+        if six != Some(COMPONENTS) {
+            return false;
         }
     }
-    if tokens.len() - p != 1 {
-        return false;
-    }
-    if tokens[p] != CLOSE {
-        return false;
-    }
-    true
+    tokens[at + VECTOR_TOKENS * n..] == [CLOSE]
 }
 
-// Whether the tokens are a channel's.
-fn check_tokens(tokens: &[u32]) -> Checked
+// The shape of a channel, if the tokens are one's.
+fn check_tokens(tokens: &[u32]) -> Option<Shape>
     ensures { Checks tokens.now (channel_from tokens.now) result }
 {
-    if tokens.len() == 0 {
-        return Checked::Unsound;
+    if *tokens.first()? != CHANNEL {
+        return None;
     }
-    if tokens[0] != CHANNEL {
-        return Checked::Unsound;
+    let bins = numbers_at(tokens, 1, BINS, LARGEST, LAST_NUMBER)?;
+    if bins != 2 {
+        return None;
     }
-    let bins = numbers_at(tokens, 1, BINS, LARGEST, LAST_NUMBER);
-    match bins {
-        Counted::Broken => Checked::Unsound,
-        Counted::Count(k) => {
-            if k != 2 {
-                return Checked::Unsound;
-            }
-            let row = numbers_at(tokens, 5, ROW, LARGEST, LAST_ROW);
-            match row {
-                Counted::Broken => Checked::Unsound,
-                Counted::Count(n) => {
-                    if 256 < n {
-                        return Checked::Unsound;
-                    }
-                    if vectors_at(tokens, n + 7, n) {
-                        return Checked::Sound(tokens[2] - LARGEST, tokens[3] - LARGEST, n);
-                    }
-                    Checked::Unsound
-                }
-            }
-        }
+    let count = numbers_at(tokens, 5, ROW, LARGEST, LAST_ROW)?;
+    if 256 < count || !vectors_at(tokens, count + 7, count) {
+        return None;
     }
+    Some(Shape {
+        start: tokens[2] - LARGEST,
+        end: tokens[3] - LARGEST,
+        count,
+    })
 }
 
 // A component: the token's number / 32768.
@@ -117,22 +80,13 @@ fn value(t: u32) -> f32
     -((LARGEST - t) as f32 / 32768.0)
 }
 
-fn narrow(x: u32) -> u8
-    requires { x < 256 }
-    ensures { result ≡ x }
-{
-    x as u8
-}
-
 // The row's numbers are put at the front of row.
 fn put_row(tokens: &[u32], n: usize, row: &mut [u8])
     requires { (6 + n ≤ length tokens.now) × (n ≤ length row.old) × RowNumbers tokens.now n }
     ensures { row.new ≡ splice row.old 0 (map (λ t. t - largest) (take n (drop 6 tokens.now))) }
 {
-    let mut i: usize = 0;
-    while i < n {
-        row[i] = narrow(tokens[6 + i] - LARGEST);
-        i += 1;
+    for i in 0..n {
+        row[i] = (tokens[6 + i] - LARGEST) as u8;
     }
 }
 
@@ -141,10 +95,8 @@ fn put_vectors(tokens: &[u32], at: usize, n: usize, vectors: &mut [f32])
     requires { (n ≤ 256) × (at + 8 * n < length tokens.now) × (6 * n ≤ length vectors.old) × VectorsIn tokens.now at n }
     ensures { vectors.new ≡ splice vectors.old 0 (map component_of (vector_numbers n (drop at tokens.now))) }
 {
-    let mut i: usize = 0;
-    while i < 6 * n {
+    for i in 0..6 * n {
         vectors[i] = value(tokens[at + i / 6 * 8 + 1 + i % 6]);
-        i += 1;
     }
 }
 
@@ -155,13 +107,11 @@ pub fn read_tokens(tokens: &[u32], row: &mut [u8], vectors: &mut [f32]) -> DeskT
     ensures row_after { row.new ≡ row_after (channel_from tokens.now) row.old }
     ensures vectors_after { vectors.new ≡ vectors_after (channel_from tokens.now) vectors.old }
 {
-    let checked = check_tokens(tokens);
-    match checked {
-        Checked::Unsound => DeskText::Refused(answers::TEXT),
-        Checked::Sound(a, b, n) => {
-            put_row(tokens, n, row);
-            put_vectors(tokens, n + 7, n, vectors);
-            DeskText::Channel(a, b, n)
-        }
-    }
+    let Some(shape) = check_tokens(tokens) else {
+        return DeskText::Refused(answers::TEXT);
+    };
+    let n = shape.count;
+    put_row(tokens, n, row);
+    put_vectors(tokens, n + 7, n, vectors);
+    DeskText::Channel(shape.start, shape.end, n)
 }

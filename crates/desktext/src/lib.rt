@@ -17,32 +17,12 @@ mod channels;
 mod numbers;
 mod tokens;
 
-// A token and the place after it, or nothing of the kind.
+// What a channel's tokens hold beside its row and vectors: start and end of its bins and how many numbers the row has.
 #[derive(Clone, Copy)]
-pub enum Found {
-    At(u32, usize),
-    Absent,
-}
-
-// The place after what was read and the count of tokens, or a malformed text.
-#[derive(Clone, Copy)]
-pub enum Step {
-    Next(usize, usize),
-    Malformed,
-}
-
-// How many numbers a form has, or that it is not as it should be.
-#[derive(Clone, Copy)]
-pub enum Counted {
-    Count(usize),
-    Broken,
-}
-
-// The bins of a channel and how many numbers its row has, or that the tokens are no channel's.
-#[derive(Clone, Copy)]
-pub enum Checked {
-    Sound(u32, u32, usize),
-    Unsound,
+pub struct Shape {
+    pub start: u32,
+    pub end: u32,
+    pub count: usize,
 }
 
 // What a desk text holds: start and end of its bins and how many numbers the row has, or the refusal's number.
@@ -89,11 +69,10 @@ fn read_with(text: &[u8], row: &mut [u8], vectors: &mut [f32], work: &mut [u32])
     if LONGEST < text.len() {
         return DeskText::Refused(answers::TEXT);
     }
-    let listed = tokens::tokens_in(text, &mut *work);
-    match listed {
-        Counted::Broken => DeskText::Refused(answers::TEXT),
-        Counted::Count(n) => channels::read_tokens(&work[..n], row, vectors),
-    }
+    let Some(n) = tokens::tokens_in(text, &mut *work) else {
+        return DeskText::Refused(answers::TEXT);
+    };
+    channels::read_tokens(&work[..n], row, vectors)
 }
 
 // The channel of a text: its row and vectors go to the front of the outputs. A malformed text is refused with 13,

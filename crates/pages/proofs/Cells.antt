@@ -5,10 +5,12 @@ use mathlib.Core.Bool.{Bool, true, false, cond}
 use mathlib.Core.List.{List, [], ◌∷◌, ◌++◌, append_assoc}
 use native.Mathlib.Omega.{arith}
 use native.Mathlib.Numerals.{add-one}
+use borrow.Rule.Slice.PartMut.{put_mid}
 use borrow.Author.Tests.{le-leb, lt-leb, eq-eqb, ne_eqb}
 use lib.Dec.{eqb}
 use lib.Ieee.{Float}
-use lib.ListN.{length, get_or, set, length-append, length-replicate}
+use lib.ListN.{length, get_or, set, take, drop, length-append, length-replicate, length-drop}
+use lib.Seq.{length-take-le}
 use Rattle.bits.specs.Bits.{splice}
 use Rattle.bits.proofs.Laws.{splice_none, splice_one}
 use Rattle.channel.specs.Bins.{from}
@@ -19,7 +21,8 @@ use Rattle.planner.specs.Cost.{bin_bits}
 use Rattle.planner.specs.Choice.{chosen_at}
 use Rattle.planner.proofs.Chosen.{chosen_is}
 use Rattle.plantext.specs.PlanText.{decimal}
-use Rattle.plantext.proofs.Printing.{Put, put_length, put_both, decimal_fits}
+use Rattle.plantext.specs.Work.{Put}
+use Rattle.plantext.proofs.Printing.{put_is, put_both, decimal_fits, put_mid_splice}
 use Rattle.pages.specs.Pages.{spaces, aligned, spread, gain_text, cell_at, cell_text}
 use Rattle.pages.specs.Work.{blank_lines}
 use Rattle.pages.specs.declared.Cell.{Cell}
@@ -28,25 +31,20 @@ use Rattle.pages.proofs.Pieces.{pieces_last, pieces_length}
 -- ---- parts
 -- a part of n bytes that a function puts in
 pub part : {out w after : List ℕ} {at r : ℕ} (n : ℕ) → length w ≡ n → at + n ≤ length out → r ≡ at + n → after ≡ splice out at w → Put out at w after r
-part n l h e t = record { fits = omega arith; next = omega arith; text = t }
+part n l h e t = put_is (omega arith) (omega arith) t
 
 -- a byte
 pub byte : (out : List ℕ) (at b r : ℕ) → at < length out → r ≡ at + 1 → Put out at (b ∷ []) (set out at b) r
 byte out at b r h e = part 1 refl (omega arith) e (sym (splice_one out at b h))
 
 -- ---- spaces
-spaces_last : (i : ℕ) → spaces i ++ (32 ∷ []) ≡ spaces (i + 1)
-spaces_last i = go i ∙ ap spaces (sym (add-one i))
-  where
-    go : (i : ℕ) → spaces i ++ (32 ∷ []) ≡ spaces (suc i)
-    go zero = refl
-    go (suc i) = ap (λ (s : List ℕ). 32 ∷ s) (go i)
-
-pub spaces_turn : (out mid : List ℕ) (at i : ℕ) → at + i < length out → mid ≡ splice out at (spaces i) → set mid (at + i) 32 ≡ splice out at (spaces (i + 1))
-spaces_turn out mid at i h e =
-    let a = part i (length-replicate i 32) (omega arith) refl e in
-    let l = put_length a in
-    (put_both a (byte mid (at + i) 32 (at + i + 1) (omega arith) refl)).text ∙ ap (splice out at) (spaces_last i)
+-- a part of a slice that is filled with them
+pub spaces_put : (out s : List ℕ) (at n : ℕ) → at + n ≤ length out → s ≡ spaces (length (take (at + n - at) (drop at out))) → put_mid at (at + n - at) out s ≡ splice out at (spaces n)
+spaces_put out s at n h e =
+    let k : at + n - at ≡ n = omega arith in
+    let m : length (take (at + n - at) (drop at out)) ≡ n = rw k (length-take-le n (drop at out) (omega (arith, length-drop at out))) in
+    let l = length-replicate {A = ℕ} n 32 in
+    rw (e, m) (put_mid_splice out (spaces n) at (at + n - at) (omega arith))
 
 -- ---- lines without bins
 pub blank_none : (out : List ℕ) → out ≡ splice out 0 (blank_lines 0)
@@ -65,9 +63,9 @@ pub blank_turn : (out mid near : List ℕ) (i : ℕ) → 65 * (i + 1) ≤ length
     → set near (65 * i + 64) 10 ≡ splice out 0 (blank_lines (i + 1))
 blank_turn out mid near i h e f =
     let a = part {r = 65 * i} (65 * i) (blank_long i) (omega arith) (omega arith) e in
-    let l = put_length a in
+    let l = a.long in
     let b = part 64 refl (omega arith) refl f in
-    let m = put_length b in
+    let m = b.long in
     (put_both a (put_both b (byte near (65 * i + 64) 10 (65 * i + 65) (omega arith) (omega arith)))).text ∙ ap (splice out 0) (blank_last i)
 
 -- ---- a number
@@ -97,17 +95,18 @@ module _ (out : List ℕ) (at n : ℕ) where
   number_none = sym (splice_none out at)
 
   module _ (places : ℕ) (some : 0 < places) (room : at + places ≤ length out) (mid : List ℕ) where
-    pub number_digit : n < 10 → mid ≡ splice out at (spaces (places - 1)) → set mid (at + (places - 1)) (48 + n) ≡ splice out at (aligned places n)
-    number_digit l e =
-        let a = part (places - 1) (length-replicate (places - 1) 32) (omega arith) refl e in
-        let k = put_length a in
-        (put_both a (byte mid (at + (places - 1)) (48 + n) (at + places) (omega arith) (omega arith))).text ∙ ap (splice out at) (aligned_digit n places some l)
+    -- the last digit behind what goes before it
+    last_put : (w : List ℕ) → length w ≡ places - 1 → mid ≡ splice out at w → w ++ ((48 + n % 10) ∷ []) ≡ aligned places n → set mid (at + (places - 1)) (48 + n % 10) ≡ splice out at (aligned places n)
+    last_put w l e f =
+        let a = part (places - 1) l (omega arith) refl e in
+        let k = a.long in
+        (put_both a (byte mid (at + (places - 1)) (48 + n % 10) (at + places) (omega arith) (omega arith))).text ∙ ap (splice out at) f
+
+    pub number_digit : n < 10 → mid ≡ splice out at (spaces (places - 1)) → set mid (at + (places - 1)) (48 + n % 10) ≡ splice out at (aligned places n)
+    number_digit l e = let z : n % 10 ≡ n = omega arith in last_put (spaces (places - 1)) (length-replicate {A = ℕ} (places - 1) 32) e (rw z (aligned_digit n places some l))
 
     pub number_more : 10 ≤ n → mid ≡ splice out at (aligned (places - 1) (n / 10)) → set mid (at + (places - 1)) (48 + n % 10) ≡ splice out at (aligned places n)
-    number_more l e =
-        let a = part (places - 1) (aligned_long (places - 1) (n / 10)) (omega arith) refl e in
-        let k = put_length a in
-        (put_both a (byte mid (at + (places - 1)) (48 + n % 10) (at + places) (omega arith) (omega arith))).text ∙ ap (splice out at) (aligned_more n places some l)
+    number_more l e = last_put (aligned (places - 1) (n / 10)) (aligned_long (places - 1) (n / 10)) e (aligned_more n places some l)
 
 -- ---- Gk
 pub gain_long : (g : ℕ) → length (gain_text g) ≡ 1
@@ -121,7 +120,7 @@ gain_long g = go (eqb g 0)
 pub part_put : (out after : List ℕ) (at n places : ℕ) → at + 1 + places ≤ length out → after ≡ splice (set out at 32) (at + 1) (aligned places n) → after ≡ splice out at (32 ∷ aligned places n)
 part_put out after at n places h e =
     let s = byte out at 32 (at + 1) (omega arith) refl in
-    let k = put_length s in
+    let k = s.long in
     (put_both s (part places (aligned_long places n) (omega arith) refl e)).text
 
 module _ (out : List ℕ) (at g : ℕ) where
@@ -129,7 +128,7 @@ module _ (out : List ℕ) (at g : ℕ) where
   unfolding gain_text
   gain_dash h e =
       let s = byte out at 32 (at + 1) (omega arith) refl in
-      let k = put_length s in
+      let k = s.long in
       rw (eq-eqb g 0 e) (put_both s (byte (set out at 32) (at + 1) 45 (at + 2) (omega arith) (omega arith))).text
 
   pub gain_shown : (after : List ℕ) → (g ≡ 0 → ⊥) → after ≡ splice out at (32 ∷ aligned 1 g) → after ≡ splice out at (32 ∷ gain_text g)
@@ -160,10 +159,10 @@ pub cell_put : (out : List ℕ) (at : ℕ) (c : Cell) (m₁ m₂ m₃ m₄ : Lis
 unfolding cell_text spread
 cell_put out at c m₁ m₂ m₃ m₄ h e₁ e₂ e₃ e₄ =
     let p₁ = part 3 (aligned_long 3 c.bin) (omega arith) refl e₁ in
-    let l₁ = put_length p₁ in
+    let l₁ = p₁.long in
     let p₂ = part {r = at + 6} 3 (ap suc (aligned_long 2 c.hebap)) (omega arith) (omega arith) e₂ in
-    let l₂ = put_length p₂ in
+    let l₂ = p₂.long in
     let p₃ = part {r = at + 8} 2 (ap suc (gain_long c.gk)) (omega arith) (omega arith) e₃ in
-    let l₃ = put_length p₃ in
+    let l₃ = p₃.long in
     let p₄ = part 4 (ap suc (aligned_long 3 c.bits)) (omega arith) refl e₄ in
     (put_both p₁ (put_both p₂ (put_both p₃ p₄))).text

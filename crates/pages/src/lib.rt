@@ -33,11 +33,7 @@ fn put_spaces(out: &mut [u8], at: usize, n: usize)
     requires { at + n ≤ length out.old }
     ensures { out.new ≡ splice out.old at (spaces n) }
 {
-    let mut i: usize = 0;
-    while i < n {
-        out[at + i] = SPACE;
-        i += 1;
-    }
+    out[at..at + n].fill(SPACE);
 }
 
 // Lines of 64 spaces.
@@ -45,19 +41,10 @@ fn put_blank(out: &mut [u8], lines: usize)
     requires { 65 * lines ≤ length out.old }
     ensures { out.new ≡ splice out.old 0 (blank_lines lines) }
 {
-    let mut i: usize = 0;
-    while i < lines {
-        put_spaces(&mut *out, 65 * i, 64);
-        out[65 * i + 64] = LINE_END;
-        i += 1;
+    for line in 0..lines {
+        put_spaces(&mut *out, 65 * line, 64);
+        out[65 * line + 64] = LINE_END;
     }
-}
-
-fn digit(n: u32) -> u8
-    requires { n < 10 }
-    ensures { result ≡ 48 + n }
-{
-    ZERO + n as u8
 }
 
 // A number right-aligned in so many places.
@@ -68,14 +55,12 @@ fn put_number(out: &mut [u8], at: usize, n: u32, places: usize)
     if places == 0 {
         return;
     }
-    let last = at + (places - 1);
     if n < 10 {
         put_spaces(&mut *out, at, places - 1);
-        out[last] = digit(n);
-        return;
+    } else {
+        put_number(&mut *out, at, n / 10, places - 1);
     }
-    put_number(&mut *out, at, n / 10, places - 1);
-    out[last] = digit(n % 10);
+    out[at + (places - 1)] = ZERO + (n % 10) as u8;
 }
 
 // The same after a space.
@@ -97,7 +82,7 @@ fn put_gain(out: &mut [u8], at: usize, gk: u8)
         out[at + 1] = DASH;
         return;
     }
-    put_part(out, at, gk as u32, 1)
+    put_part(out, at, u32::from(gk), 1)
 }
 
 // The twelve characters of a bin.
@@ -106,7 +91,7 @@ fn put_cell(out: &mut [u8], at: usize, c: Cell)
     ensures { out.new ≡ splice out.old at (cell_text c) }
 {
     put_number(&mut *out, at, c.bin, 3);
-    put_part(&mut *out, at + 3, c.hebap as u32, 2);
+    put_part(&mut *out, at + 3, u32::from(c.hebap), 2);
     put_gain(&mut *out, at + 6, c.gk);
     put_part(out, at + 8, c.bits, 3)
 }
@@ -165,12 +150,10 @@ fn put_cells(
         ≡ with_cells (cell_text_at mode gains.now row.now x.now start) start end out.old }
 {
     let mut n: usize = 0;
-    let mut bin = start;
-    while bin < end {
+    for bin in start..end {
         let c = cell_of(mode, gains, n, row, x, bin, start);
         put_cell(&mut *out, place_of(bin - start), c);
         n += channel::gains_used(mode, row[bin]);
-        bin += 1;
     }
 }
 

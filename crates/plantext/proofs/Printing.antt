@@ -4,60 +4,55 @@ use mathlib.Core.Path.{◌≡◌, refl, sym, ap, ◌∙◌}
 use mathlib.Core.List.{List, [], ◌∷◌, ◌++◌, append_assoc, append-nil}
 use mathlib.Core.Bool.{Bool, true, false, cond}
 use native.Mathlib.Omega.{arith}
-use native.Mathlib.Nat.{add_assoc}
+use native.Mathlib.Nat.{le_of_lt}
 use native.Mathlib.Numerals.{add-one}
 use lib.ListN.{length, take, set, get_or, replicate, length-append}
-use lib.Seq.{take-suc}
+use lib.Seq.{take-suc, drop-drop, length-take-le}
 use lib.Dec.{leb}
 use borrow.Author.Tests.{le-leb, lt-leb}
+use borrow.Rule.Slice.PartMut.{put_mid}
 use Rattle.bits.specs.Bits.{splice}
 use Rattle.bits.proofs.Laws.{splice_none, splice_one, splice_more, length_splice}
 use Rattle.planner.specs.Planning.{total_of, gains_of}
 use Rattle.planner.specs.declared.Plan.{Plan}
+use Rattle.plantext.specs.Work.{Put, Puts}
+use Rattle.plantext.specs.declared.Printer.{Printer}
 use Rattle.plantext.specs.PlanText.{decimal, numeral, hex_of, spaced, hexes, line, mode_name, gains_name, payload_name, total_name, field_name, refused_name, choice_lines, size_lines, plan_text, refused_text}
 
--- w stands from a place on, within the list, and r is the place after it
-pub record Put (out : List ℕ) (at : ℕ) (w after : List ℕ) (r : ℕ) : Type 0 where
-  pub fits : at + length w ≤ length out
-  pub next : r ≡ at + length w
-  pub text : after ≡ splice out at w
-
-pub put_length : {out w after : List ℕ} {at r : ℕ} → Put out at w after r → length after ≡ length out
-put_length {out} {w} {after} {at} p = ap length p.text ∙ length_splice out w at p.fits
+pub put_is : {out w after : List ℕ} {at r : ℕ} → at + length w ≤ length out → r ≡ at + length w → after ≡ splice out at w → Put out at w after r
+put_is {out} {w} {at = at} f n e = record { fits = f; next = n; text = e; long = ap length e ∙ length_splice out w at f }
 
 pub put_none : (out : List ℕ) (at : ℕ) → at ≤ length out → Put out at [] out at
-put_none out at h = record { fits = omega arith; next = omega arith; text = sym (splice_none out at) }
+put_none out at h = put_is (omega arith) (omega arith) (sym (splice_none out at))
 
 pub put_byte : (out : List ℕ) (at b : ℕ) → at < length out → Put out at (b ∷ []) (set out at b) (at + 1)
-put_byte out at b h = record { fits = omega arith; next = refl; text = sym (splice_one out at b h) }
-
--- what a function ensures, from it and into it
-pub put_done : {out w after : List ℕ} {at r : ℕ} → Put out at w after r → (r ≡ at + length w) × (after ≡ splice out at w)
-put_done p = (p.next, p.text)
-
-pub put_part : {out w after : List ℕ} {at r : ℕ} (most : ℕ) → length w ≤ most → at + most ≤ length out → (r ≡ at + length w) × (after ≡ splice out at w) → Put out at w after r
-put_part most h f e = record { fits = omega arith; next = e.0; text = e.1 }
+put_byte out at b h = put_is (omega arith) refl (sym (splice_one out at b h))
 
 -- one part after another
 pub put_both : {out a mid b after : List ℕ} {at p r : ℕ} → Put out at a mid p → Put mid p b after r → Put out at (a ++ b) after r
 put_both {out} {a} {mid} {b} {after} {at} {p} {r} x y =
-    let k = put_length x in
     let n = length-append a b in
-    let e = x.next in
-    let f = y.next in
-    let h = y.fits in
-    record {
-      fits = omega arith;
-      next = omega arith;
-      text = y.text ∙ rw (x.text, e) (splice_more out a b at (omega arith));
-    }
+    let h = x.next in
+    let k = y.next in
+    let f = y.fits in
+    let l = x.long in
+    put_is (omega arith) (omega arith) (y.text ∙ rw (x.text, x.next) (splice_more out a b at (omega arith)))
+
+-- the same of a printer
+pub puts_none : (p : Printer) → p.at ≤ length p.out.now → Puts p p []
+puts_none p h = record { put = put_none p.out.now p.at h; same_output = refl }
+
+pub puts_both : {p q r : Printer} {a b : List ℕ} → Puts p q a → Puts q r b → Puts p r (a ++ b)
+puts_both x y = record { put = put_both x.put y.put; same_output = y.same_output ∙ x.same_output }
 
 -- ---- a byte string
-pub text_turn : (out after s : List ℕ) (at i : ℕ) → i < length s → at + length s ≤ length out → Put out at (take i s) after (at + i)
-    → Put out at (take (i + 1) s) (set after (at + i) (get_or s i 0)) (at + (i + 1))
-text_turn out after s at i h f p =
-    let k = put_length p in
-    rw (add-one, take-suc s i 0 h, ← add-one, ← add_assoc) (put_both p (put_byte after (at + i) (get_or s i 0) (omega arith)))
+-- a part of a slice that is written whole
+pub put_mid_splice : {A : Type 0} (l new : List A) (at k : ℕ) → k ≡ length new → put_mid at k l new ≡ splice l at new
+unfolding splice
+put_mid_splice {A} l new at k e = rw e (ap (λ (r : List A). take at l ++ (new ++ r)) (drop-drop (length new) at l))
+
+pub put_slice : (out w s : List ℕ) (at : ℕ) → at + length w ≤ length out → s ≡ w → Put out at w (put_mid at (at + length w - at) out s) (at + length w)
+put_slice out w s at h e = put_is h refl (rw e (put_mid_splice out w at (at + length w - at) (omega arith)))
 
 -- ---- a number
 pub decimal_fits : (places n : ℕ) → length (decimal places n) ≤ places
@@ -69,27 +64,23 @@ decimal_fits (suc places) n = go (leb 10 n) (decimal_fits places (n / 10))
     go true h = rw (length-append (decimal places (n / 10)) ((48 + n % 10) ∷ [])) (omega arith)
     go false h = omega arith
 
-module _ (out : List ℕ) (at n : ℕ) where
-  pub number_none : at ≤ length out → Put out at (decimal 0 n) out at
+module _ (n : ℕ) {p : Printer} where
+  pub number_none : p.at ≤ length p.out.now → Puts p p (decimal 0 n)
   unfolding decimal
-  number_none h = put_none out at h
+  number_none h = puts_none p h
 
-  pub number_digit : (places : ℕ) → 0 < places → at + places ≤ length out → n < 10 → Put out at (decimal places n) (set out at (48 + n)) (at + 1)
+  pub number_digit : (places : ℕ) → 0 < places → n < 10 → {r : Printer} → Puts p r ((48 + n % 10) ∷ []) → Puts p r (decimal places n)
   unfolding decimal
-  number_digit zero h r l = absurd (omega arith)
-  number_digit (suc places) h r l = rw (lt-leb 10 n l) (put_byte out at (48 + n) (omega arith))
+  number_digit zero h l x = absurd (omega arith)
+  number_digit (suc places) h l x = let e : n % 10 ≡ n = omega arith in rw (lt-leb 10 n l) (rw e at x)
 
-  pub number_more : (places : ℕ) → 0 < places → at + places ≤ length out → 10 ≤ n → (mid : List ℕ) (p : ℕ) → Put out at (decimal (places - 1) (n / 10)) mid p
-      → Put out at (decimal places n) (set mid p (48 + n % 10)) (p + 1)
+  pub number_more : (places : ℕ) → 0 < places → 10 ≤ n → {q r : Printer} → Puts p q (decimal (places - 1) (n / 10)) → Puts q r ((48 + n % 10) ∷ []) → Puts p r (decimal places n)
   unfolding decimal
-  number_more zero h r l mid p w = absurd (omega arith)
-  number_more (suc places) h r l mid p w =
+  number_more zero h l x y = absurd (omega arith)
+  number_more (suc places) h l {q} x y =
       let z : suc places - 1 ≡ places = omega arith in
-      let v : Put out at (decimal places (n / 10)) mid p = rw z at w in
-      let f = decimal_fits places (n / 10) in
-      let g = v.next in
-      let k = put_length v in
-      rw (le-leb 10 n l) (put_both v (put_byte mid p (48 + n % 10) (omega arith)))
+      let v : Puts p q (decimal places (n / 10)) = rw z at x in
+      rw (le-leb 10 n l) (puts_both v y)
 
 -- ---- numbers after spaces
 pub spaced_one : (n : ℕ) → spaced (n ∷ []) ≡ 32 ∷ numeral n
@@ -107,13 +98,16 @@ unfolding spaced
 spaced_fits [] = omega arith
 spaced_fits (n ∷ ns) = let h = spaced_fits ns in let d = decimal_fits 10 n in rw (length-append (32 ∷ numeral n) (spaced ns)) (omega arith)
 
-pub spaced_none : (out ns : List ℕ) (at : ℕ) → at ≤ length out → Put out at (spaced (take 0 ns)) out at
+pub spaced_none : (p : Printer) (ns : List ℕ) → p.at ≤ length p.out.now → Puts p p (spaced (take 0 ns))
 unfolding spaced
-spaced_none out ns at h = put_none out at h
+spaced_none p ns h = puts_none p h
 
-pub spaced_turn : {out after last : List ℕ} {at p r : ℕ} (ns : List ℕ) (i : ℕ) → i < length ns → Put out at (spaced (take i ns)) after p
-    → Put after p (spaced (get_or ns i 0 ∷ [])) last r → Put out at (spaced (take (i + 1) ns)) last r
-spaced_turn ns i h p q = rw (add-one, take-suc ns i 0 h, spaced_append) (put_both p q)
+-- after the first i of them there is room for another
+pub spaced_room : (ns : List ℕ) (i : ℕ) → i < length ns → length (spaced (take i ns)) + 11 ≤ 11 * length ns
+spaced_room ns i h = let f = spaced_fits (take i ns) in let l = length-take-le i ns (le_of_lt h) in omega arith
+
+pub spaced_turn : {p q r : Printer} (ns : List ℕ) (i : ℕ) → i < length ns → Puts p q (spaced (take i ns)) → Puts q r (spaced (get_or ns i 0 ∷ [])) → Puts p r (spaced (take (i + 1) ns))
+spaced_turn ns i h x y = rw (add-one, take-suc ns i 0 h, spaced_append) (puts_both x y)
 
 -- ---- bytes in hex
 pub length_hexes : (bs : List ℕ) → length (hexes bs) ≡ 3 * length bs
@@ -126,36 +120,27 @@ unfolding hexes
 hexes_append [] ys = refl
 hexes_append (x ∷ xs) ys = ap (λ (l : List ℕ). 32 ∷ hex_of (x / 16) ∷ hex_of (x % 16) ∷ l) (hexes_append xs ys)
 
-pub hexes_none : (out bs : List ℕ) (at : ℕ) → at ≤ length out → Put out at (hexes (take 0 bs)) out at
+pub hexes_none : (p : Printer) (bs : List ℕ) → p.at ≤ length p.out.now → Puts p p (hexes (take 0 bs))
 unfolding hexes
-hexes_none out bs at h = put_none out at h
+hexes_none p bs h = puts_none p h
 
-put_three : (l : List ℕ) (p x y z : ℕ) → p + 3 ≤ length l → Put l p (x ∷ y ∷ z ∷ []) (set (set (set l p x) (p + 1) y) (p + 2) z) (p + 3)
-put_three l p x y z h =
-    let a = put_byte l p x (omega arith) in
-    let j = put_length a in
-    let b = put_byte (set l p x) (p + 1) y (omega arith) in
-    let k = put_length b in
-    let e : p + 1 + 1 ≡ p + 2 = omega arith in
-    let f : p + 2 + 1 ≡ p + 3 = omega arith in
-    rw (← f, ← e) (put_both a (put_both b (put_byte (set (set l p x) (p + 1) y) (p + 1 + 1) z (omega arith))))
+pub hexes_room : (bs : List ℕ) (i : ℕ) → i < length bs → length (hexes (take i bs)) + 3 ≤ 3 * length bs
+hexes_room bs i h = let f = length_hexes (take i bs) in let l = length-take-le i bs (le_of_lt h) in omega arith
 
-pub hexes_turn : {out after : List ℕ} {at p : ℕ} (bs : List ℕ) (i x y : ℕ) → i < length bs → p + 3 ≤ length after → Put out at (hexes (take i bs)) after p
-    → x ≡ hex_of (get_or bs i 0 / 16) → y ≡ hex_of (get_or bs i 0 % 16)
-    → Put out at (hexes (take (i + 1) bs)) (set (set (set after p 32) (p + 1) x) (p + 2) y) (p + 3)
+-- the three bytes of one
+pub hexes_turn : {p q r : Printer} (bs : List ℕ) (i x y : ℕ) → i < length bs → Puts p q (hexes (take i bs))
+    → x ≡ hex_of (get_or bs i 0 / 16) → y ≡ hex_of (get_or bs i 0 % 16) → Puts q r (32 ∷ x ∷ y ∷ []) → Puts p r (hexes (take (i + 1) bs))
 unfolding hexes
-hexes_turn {after = after} {p = p} bs i x y h f w ex ey =
-    rw (add-one, take-suc bs i 0 h, hexes_append, ← ex, ← ey) (put_both w (put_three after p 32 x y f))
+hexes_turn bs i x y h a ex ey b = rw (add-one, take-suc bs i 0 h, hexes_append, ← ex, ← ey) (puts_both a b)
 
 -- ---- lines
 length_line : (name items : List ℕ) → length (line name items) ≡ 3 + (length name + length items)
 unfolding line
 length_line name items = simp length-append (omega arith)
 
-pub put_line : {out mid near after : List ℕ} {at p q r : ℕ} (name items : List ℕ) → Put out at (40 ∷ name) mid p → Put mid p items near q
-    → Put near q (41 ∷ 10 ∷ []) after r → Put out at (line name items) after r
+pub puts_line : {p q r s : Printer} (name items : List ℕ) → Puts p q (40 ∷ name) → Puts q r items → Puts r s (41 ∷ 10 ∷ []) → Puts p s (line name items)
 unfolding line
-put_line name items x y z = put_both x (put_both y z)
+puts_line name items x y z = puts_both x (puts_both y z)
 
 pub number_line_fits : (name : List ℕ) (n : ℕ) → length (line name (spaced (n ∷ []))) ≤ 14 + length name
 number_line_fits name n = let h = spaced_fits (n ∷ []) in rw length_line (omega arith)

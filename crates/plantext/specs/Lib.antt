@@ -1,1 +1,2 @@
 pub mod PlanText
+pub mod Work

@@ -1,5 +1,4 @@
 -- `pages::put_cells` meets its contract. Assumes nothing.
-use Prim.Native.Nat.{◌-◌, ◌≤◌}
 use mathlib.Core.Path.{◌≡◌}
 use lib.ListN.{length}
 use Rattle.channel.specs.Row.{active_count}
@@ -8,7 +7,4 @@ use Rattle.pages.specs.Work.{with_cells}
 use Rattle.pages.proofs.put_cells.Given as goal
 
 abbrev pub invariant-loop-bin : goal.invariant-loop-bin
-invariant-loop-bin l = (l.start ≤ l.bin) × (l.bin ≤ l.end) × (l.n ≡ active_count l.mode l.row l.start l.bin) × (length l.out ≡ length l.initial.out) × (l.out ≡ with_cells (cell_text_at l.mode l.gains l.row l.x l.start) l.start l.bin l.initial.out)
-
-abbrev pub decreases-loop-bin : goal.decreases-loop-bin
-decreases-loop-bin l = l.end - l.bin
+invariant-loop-bin l = (l.n ≡ active_count l.mode l.row l.start l.bin) × (length l.out ≡ length l.initial.out) × (l.out ≡ with_cells (cell_text_at l.mode l.gains l.row l.x l.start) l.start l.bin l.initial.out)

@@ -10,7 +10,7 @@ returns-then-gk-eq0 c = let a = c.args in
 
 pub returns : goal.returns
 returns c = let a = c.args in
-    gain_shown a.out.now a.at a.gk c.put_part.new.out c.if-gk-eq0.false c.put_part.ensures
+    gain_shown a.out.now a.at a.gk c.put_part.new.out c.if-gk-eq0.false (rw c.from.ensures at c.put_part.ensures)
 
 pub bounds-out-at-then-gk-eq0 : goal.bounds-out-at-then-gk-eq0
 bounds-out-at-then-gk-eq0 c = simp length-set (omega arith)

@@ -1,5 +1,5 @@
 -- `desktext::channels::put_row` meets its contract. Assumes nothing.
-use Prim.Native.Nat.{◌-◌, ◌≤◌}
+use Prim.Native.Nat.{◌-◌}
 use mathlib.Core.Path.{◌≡◌}
 use mathlib.Core.List.{map}
 use lib.ListN.{length, take, drop}
@@ -8,7 +8,4 @@ use Rattle.desktext.specs.Spelling.{largest}
 use Rattle.desktext.proofs.channels.put_row.Given as goal
 
 abbrev pub invariant-loop-i : goal.invariant-loop-i
-invariant-loop-i l = (l.i ≤ l.n) × (length l.row ≡ length l.initial.row) × (l.row ≡ splice l.initial.row 0 (map (λ t. t - largest) (take l.i (take l.n (drop 6 l.tokens)))))
-
-abbrev pub decreases-loop-i : goal.decreases-loop-i
-decreases-loop-i l = l.n - l.i
+invariant-loop-i l = (length l.row ≡ length l.initial.row) × (l.row ≡ splice l.initial.row 0 (map (λ t. t - largest) (take l.i (take l.n (drop 6 l.tokens)))))

@@ -1,5 +1,4 @@
 -- `desktext::channels::put_vectors` meets its contract. Assumes nothing.
-use Prim.Native.Nat.{◌-◌, ◌*◌, ◌≤◌}
 use mathlib.Core.Path.{◌≡◌}
 use mathlib.Core.List.{map}
 use lib.ListN.{length, take, drop}
@@ -9,7 +8,4 @@ use Rattle.desktext.specs.Work.{vector_numbers}
 use Rattle.desktext.proofs.channels.put_vectors.Given as goal
 
 abbrev pub invariant-loop-i : goal.invariant-loop-i
-invariant-loop-i l = (l.i ≤ 6 * l.n) × (length l.vectors ≡ length l.initial.vectors) × (l.vectors ≡ splice l.initial.vectors 0 (map component_of (take l.i (vector_numbers l.n (drop l.at l.tokens)))))
-
-abbrev pub decreases-loop-i : goal.decreases-loop-i
-decreases-loop-i l = 6 * l.n - l.i
+invariant-loop-i l = (length l.vectors ≡ length l.initial.vectors) × (l.vectors ≡ splice l.initial.vectors 0 (map component_of (take l.i (vector_numbers l.n (drop l.at l.tokens)))))

@@ -1,52 +1,25 @@
 -- `desktext::channels::vectors_at` meets its contract. Assumes nothing.
-use mathlib.Core.Path.{sym}
 use native.Mathlib.Omega.{arith}
-use Rattle.desktext.specs.Spelling.{vector_token, last_number}
-use Rattle.desktext.proofs.Forms.{vectors_start, vectors_halt, vectors_uneven, vectors_turn, vectors_cut, vectors_open, vectors_done, NumbersAt, holds_count, holds_none}
+use native.Mathlib.Nat.{le_antisymm}
+use Prim.Native.Nat.{◌+◌, ◌*◌}
+use mathlib.Core.Path.{refl, sym}
+use Rattle.desktext.proofs.Laws.{rest_is}
+use Rattle.desktext.proofs.Forms.{vectors_start, vectors_stop, vectors_next, vectors_last}
 use Rattle.desktext.proofs.channels.vectors_at.Goals as goal
-use Rattle.desktext.proofs.channels.vectors_at.Goals.{In-Count}
-
--- the tokens of one vector
-six : (c : In-Count) → NumbersAt c.args.tokens.now c.loop-i.p vector_token 0 last_number c.in-Count.k
-six c = holds_count _ _ vector_token 0 last_number _ _ c.numbers_at-six.ensures c.in-Count.is
 
 pub loop-i-init : goal.loop-i-init
-loop-i-init c = let a = c.args in (omega arith, omega arith, omega arith, vectors_start a.tokens.now a.at a.n)
+loop-i-init c = (omega arith, vectors_start c.args.tokens.now c.args.at c.args.n)
+
+pub returns-then-ne : goal.returns-then-ne
+returns-then-ne c = let a = c.args in
+    record { shown = sym (vectors_stop a.tokens.now a.at a.n c.loop-i.i _ _ c.loop-i.invariant.1 refl (omega arith) _ c.numbers_at-six.ensures c.if-ne.ensures); within = tt }
 
 pub loop-i-preserved : goal.loop-i-preserved
-loop-i-preserved c =
-    let a = c.args in
-    let v = c.loop-i.invariant in
-    let h = six (goal.at.loop-i-preserved c).In-Count in
-    (omega arith, omega arith, omega (arith, h.1), vectors_turn a.tokens.now a.at a.n c.loop-i.i c.loop-i.p _ v.3 v.1 (omega arith) _ h.0 h.1 c.if-k-ne-COMPONENTS.false)
-
-pub returns-in-Broken : goal.returns-in-Broken
-returns-in-Broken c =
-    let a = c.args in
-    let v = c.loop-i.invariant in
-    record { shown = sym (vectors_halt a.tokens.now a.at a.n c.loop-i.i c.loop-i.p _ v.3 v.1 (omega arith) (holds_none _ _ _ _ c.numbers_at-six.ensures c.in-Broken.is)); within = tt }
-
-pub returns-then-k-ne-COMPONENTS : goal.returns-then-k-ne-COMPONENTS
-returns-then-k-ne-COMPONENTS c =
-    let a = c.args in
-    let v = c.loop-i.invariant in
-    let h = six (goal.at.returns-then-k-ne-COMPONENTS c).In-Count in
-    record { shown = sym (vectors_uneven a.tokens.now a.at a.n c.loop-i.i c.loop-i.p _ v.3 v.1 (omega arith) _ h.0 h.1 c.if-k-ne-COMPONENTS.true); within = tt }
-
-pub returns-then-tokens-p-ne1 : goal.returns-then-tokens-p-ne1
-returns-then-tokens-p-ne1 c =
-    let a = c.args in
-    let v = c.loop-i.invariant in
-    record { shown = vectors_cut a.tokens.now a.at a.n c.loop-i.i c.loop-i.p _ v.3 v.1 (omega arith) v.2 c.if-tokens-p-ne1.true; within = tt }
-
-pub returns-then-tokens-p-ne-CLOSE : goal.returns-then-tokens-p-ne-CLOSE
-returns-then-tokens-p-ne-CLOSE c =
-    let a = c.args in
-    let v = c.loop-i.invariant in
-    record { shown = vectors_open a.tokens.now a.at a.n c.loop-i.i c.loop-i.p _ v.3 v.1 (omega arith) v.2 c.if-tokens-p-ne1.false c.if-tokens-p-ne-CLOSE.true; within = tt }
+loop-i-preserved c = let a = c.args in vectors_next a.tokens.now a.at a.n c.loop-i.i _ _ c.loop-i.invariant.1 refl (omega arith) _ c.numbers_at-six.ensures c.if-ne.ensures
 
 pub returns : goal.returns
-returns c =
-    let a = c.args in
-    let v = c.loop-i.invariant in
-    record { shown = vectors_done a.tokens.now a.at a.n c.loop-i.i c.loop-i.p _ v.3 v.1 (omega arith) v.2 c.if-tokens-p-ne1.false c.if-tokens-p-ne-CLOSE.false; within = omega arith }
+returns c = let a = c.args in
+    let e = le_antisymm c.loop-i.auto.i-end c.loop-i-test.false in
+    let u = rw e at c.loop-i.invariant.1 in
+    let l = vectors_last a.tokens.now a.at a.n a.n _ _ u refl refl _ (rw (rest_is a.tokens.now (a.at + 8 * a.n)) at c.eq.ensures) in
+    record { shown = l.0; within = l.1 }

@@ -1,50 +1,41 @@
 -- `desktext::numbers::number_at` meets its contract. Assumes nothing.
-use Prim.Native.Nat.{◌+◌}
-use mathlib.Core.Path.{sym}
 use native.Mathlib.Omega.{arith}
-use lib.ListN.{drop}
-use Rattle.desktext.specs.Spelling.{largest}
-use Rattle.desktext.specs.Text.{natural}
-use Rattle.desktext.proofs.Laws.{number_end, number_less_none, number_less_zero, number_less, number_more_none, number_more, FoundAt, finds_at, finds_none}
+use mathlib.Core.Path.{sym, ◌∙◌}
+use Rattle.desktext.proofs.Laws.{finds_nothing, number_end, number_less_none, number_less_zero, number_less, number_more_none, number_more}
 use Rattle.desktext.proofs.numbers.number_at.Goals as goal
 
-pub returns-then-at-text : goal.returns-then-at-text
-returns-then-at-text c = let a = c.args in record { shown = sym (number_end a.text.now a.at (omega arith)); onward = tt }
+pub returns-in_err-get : goal.returns-in_err-get
+returns-in_err-get c = finds_nothing c.from_residual.ensures (number_end c.args.text.now c.args.at c.in_err-get.ensures.lookup.3)
 
-pub returns-in-Absent : goal.returns-in-Absent
-returns-in-Absent c = let a = c.args in
-    record { shown = sym (number_less_none a.text.now a.at (omega arith) c.if-text-at-eq45.true (finds_none _ _ _ _ _ c.natural_at-size.ensures c.in-Absent.is)); onward = tt }
+pub returns-in_err-m : goal.returns-in_err-m
+returns-in_err-m c =
+    let g = c.in_ok-get.ensures.lookup.3 in
+    finds_nothing c.from_residual-in_err-m.ensures (number_more_none c.args.text.now c.args.at g.0 (λ e. c.if-branch-ne45.true (g.1 0 ∙ e)) c.in_err-m.ensures.shown)
+
+pub returns-then-branch-ne45 : goal.returns-then-branch-ne45
+returns-then-branch-ne45 c =
+    let g = c.in_ok-get.ensures.lookup.3 in
+    let h = c.in_ok-m.ensures.onward in
+    record {
+      shown = sym (number_more c.args.text.now c.args.at g.0 (λ e. c.if-branch-ne45.true (g.1 0 ∙ e)) _ _ c.in_ok-m.ensures.shown);
+      onward = (omega arith, omega arith, omega arith);
+    }
+
+pub returns-in_err-m-2 : goal.returns-in_err-m-2
+returns-in_err-m-2 c =
+    let g = c.in_ok-get.ensures.lookup.3 in
+    finds_nothing c.from_residual-in_err-m-2.ensures (number_less_none c.args.text.now c.args.at g.0 (sym (g.1 0) ∙ c.if-branch-ne45.false) c.in_err-m-2.ensures.shown)
 
 pub returns-then-m-eq0 : goal.returns-then-m-eq0
-returns-then-m-eq0 c = let size_is : (let a = c.args in
-    FoundAt a.text.now (a.at + 1 + 1) largest (natural (drop (a.at + 1) a.text.now)) c.in-At.m c.in-At.q) = (finds_at _ _ _ _ _ _ _ c.natural_at-size.ensures c.in-At.is) in
-    let a = c.args in
-    record { shown = sym (number_less_zero a.text.now a.at (omega arith) c.if-text-at-eq45.true _ _ (size_is).0 c.if-m-eq0.true); onward = tt }
+returns-then-m-eq0 c =
+    let g = c.in_ok-get.ensures.lookup.3 in
+    record { shown = sym (number_less_zero c.args.text.now c.args.at g.0 (sym (g.1 0) ∙ c.if-branch-ne45.false) _ _ c.in_ok-m-2.ensures.shown c.if-m-eq0.true); onward = tt }
 
-pub returns-else-m-eq0 : goal.returns-else-m-eq0
-returns-else-m-eq0 c = let size_is : (let a = c.args in
-    FoundAt a.text.now (a.at + 1 + 1) largest (natural (drop (a.at + 1) a.text.now)) c.in-At.m c.in-At.q) = (finds_at _ _ _ _ _ _ _ c.natural_at-size.ensures c.in-At.is) in
-    let a = c.args in
-    let h = size_is in
-    record { shown = sym (number_less a.text.now a.at (omega arith) c.if-text-at-eq45.true _ _ h.0 c.if-m-eq0.false); onward = (omega arith, omega arith, omega arith) }
-
-pub returns-in-Absent-size : goal.returns-in-Absent-size
-returns-in-Absent-size c = let a = c.args in
-    record { shown = sym (number_more_none a.text.now a.at (omega arith) c.if-text-at-eq45.false (finds_none _ _ _ _ _ c.natural_at-size-else-text-at-eq45.ensures c.in-Absent-size.is)); onward = tt }
-
-pub returns-in-At-size : goal.returns-in-At-size
-returns-in-At-size c = let size2_is : (let a = c.args in
-    FoundAt a.text.now (a.at + 1) largest (natural (drop a.at a.text.now)) c.in-At-size.m c.in-At-size.q) = (finds_at _ _ _ _ _ _ _ c.natural_at-size-else-text-at-eq45.ensures c.in-At-size.is) in
-    let a = c.args in
-    let h = size2_is in
-    record { shown = sym (number_more a.text.now a.at (omega arith) c.if-text-at-eq45.false _ _ h.0); onward = (omega arith, omega arith, omega arith) }
-
-pub overflow_sub-result : goal.overflow_sub-result
-overflow_sub-result c = let size_is : (let a = c.args in
-    FoundAt a.text.now (a.at + 1 + 1) largest (natural (drop (a.at + 1) a.text.now)) c.in-At.m c.in-At.q) = (finds_at _ _ _ _ _ _ _ c.natural_at-size.ensures c.in-At.is) in
-    let h = size_is in omega arith
-
-pub overflow_add-result : goal.overflow_add-result
-overflow_add-result c = let size2_is : (let a = c.args in
-    FoundAt a.text.now (a.at + 1) largest (natural (drop a.at a.text.now)) c.in-At-size.m c.in-At-size.q) = (finds_at _ _ _ _ _ _ _ c.natural_at-size-else-text-at-eq45.ensures c.in-At-size.is) in
-    let h = size2_is in omega arith
+pub returns : goal.returns
+returns c =
+    let g = c.in_ok-get.ensures.lookup.3 in
+    let h = c.in_ok-m-2.ensures.onward in
+    record {
+      shown = sym (number_less c.args.text.now c.args.at g.0 (sym (g.1 0) ∙ c.if-branch-ne45.false) _ _ c.in_ok-m-2.ensures.shown c.if-m-eq0.false);
+      onward = (omega arith, omega arith, omega arith);
+    }

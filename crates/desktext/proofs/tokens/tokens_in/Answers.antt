@@ -1,46 +1,33 @@
 -- `desktext::tokens::tokens_in` meets its contract. Assumes nothing.
-use Prim.Native.Nat.{◌+◌, ◌≤◌}
-use mathlib.Core.Path.{◌≡◌, ◌∙◌}
 use native.Mathlib.Omega.{arith}
+use Prim.Native.Nat.{◌≤◌}
+use mathlib.Core.Path.{◌≡◌, ◌∙◌}
 use lib.ListN.{length, length-set}
-use Rattle.desktext.specs.Spelling.{close_token}
-use Rattle.desktext.specs.Text.{named}
-use Rattle.desktext.specs.Work.{Reading}
-use Rattle.desktext.proofs.Laws.{finds_at, finds_none}
-use Rattle.desktext.proofs.Steps.{begin_none, begin_form, reads_next, end_here, end_long, end_other, end_line_lem}
+use Rattle.desktext.proofs.Steps.{begin_form, begin_none, end_here, end_long, end_other, end_line_lem}
 use Rattle.desktext.proofs.tokens.tokens_in.Goals as goal
-use Rattle.desktext.proofs.tokens.tokens_in.Goals.{In-Next}
+use Rattle.desktext.proofs.tokens.tokens_in.Goals.{In_ok-p, then-text-p-ne1-via-then-text-p-ne1, then-text-p-ne1-via-else-text-p-ne1+then-text-p-ne10}
 
--- the text is read as far as the end of its form
-read : (c : In-Next) → Reading c.args.text.now c.in-Next.p c.in-Next.n 0 c.form-whole.new.out
-read c = (reads_next _ _ _ _ _ _ _ c.form-whole.ensures c.in-Next.is).1
-
--- and its tokens are within the output
-within : (c : In-Next) → c.in-Next.n ≤ length c.form-whole.new.out
+-- the tokens are within the output
+within : (c : In_ok-p) → c.in_ok-p.n ≤ length c.form.new.out
 within c =
-    let r = read c in
-    let e : length c.form-whole.new.out ≡ length c.args.out.now = c.form-whole.auto.out ∙ simp length-set in
+    let r = c.in_ok-p.ensures.1 in
+    let e : length c.form.new.out ≡ length c.args.out.now = c.form.auto.out ∙ simp length-set in
     omega arith
 
-pub form-whole-requires : goal.form-whole-requires
-form-whole-requires c =
-    let s = c.args.text.now in
-    let h = finds_at s (0 + 1) close_token (named s) _ _ _ c.name_at-name.ensures c.in-At.is in
-    begin_form s _ _ c.args.out.now h.0 h.1 h.2 c.requires
+pub returns-in_err-t : goal.returns-in_err-t
+returns-in_err-t c = rw c.from_residual.ensures (begin_none _ c.in_err-t.ensures.shown)
 
-pub returns-in-Absent : goal.returns-in-Absent
-returns-in-Absent c = begin_none _ (finds_none _ _ _ _ _ c.name_at-name.ensures c.in-Absent.is)
+pub form-requires : goal.form-requires
+form-requires c = let h = c.in_ok-t.ensures.onward in begin_form c.args.text.now _ _ c.args.out.now c.in_ok-t.ensures.shown h.0 h.1 c.requires
 
 pub returns-then-p-text : goal.returns-then-p-text
-returns-then-p-text c = let d = (goal.at.returns-then-p-text c).In-Next in (end_here _ _ _ _ (read d) c.if-p-text.true, within d)
+returns-then-p-text c = (end_here _ _ _ _ c.in_ok-p.ensures.1 c.if-p-text.true, within (goal.at.returns-then-p-text c).In_ok-p)
 
 pub returns-then-text-p-ne1 : goal.returns-then-text-p-ne1
-returns-then-text-p-ne1 c = end_long _ _ _ _ (read (goal.at.returns-then-text-p-ne1 c).In-Next) c.if-p-text.false c.if-text-p-ne1.true
+returns-then-text-p-ne1 c = let r = c.in_ok-p.ensures.1 in elim c.then-text-p-ne1.branch [
+  | then-text-p-ne1-via-then-text-p-ne1 w ↦ end_long _ _ _ _ r c.if-p-text.false w.if-text-p-ne1.true
+  | then-text-p-ne1-via-else-text-p-ne1+then-text-p-ne10 w ↦ end_other _ _ _ _ r w.if-text-p-ne1.false w.if-text-p-ne10.true
+]
 
-pub returns-then-text-p-ne10 : goal.returns-then-text-p-ne10
-returns-then-text-p-ne10 c = end_other _ _ _ _ (read (goal.at.returns-then-text-p-ne10 c).In-Next) c.if-text-p-ne1.false c.if-text-p-ne10.true
-
-pub returns-else-text-p-ne10 : goal.returns-else-text-p-ne10
-returns-else-text-p-ne10 c =
-    let d = (goal.at.returns-else-text-p-ne10 c).In-Next in
-    (end_line_lem _ _ _ _ (read d) c.if-text-p-ne1.false c.if-text-p-ne10.false, within d)
+pub returns : goal.returns
+returns c = (end_line_lem _ _ _ _ c.in_ok-p.ensures.1 c.if-text-p-ne1.false c.if-text-p-ne10.false, within (goal.at.returns c).In_ok-p)
