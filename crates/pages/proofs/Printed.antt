@@ -27,18 +27,21 @@ use Rattle.planner.specs.Fit.{plan_cause}
 use Rattle.planner.specs.Work.{Within}
 use Rattle.planner.proofs.Codes.{bin_most}
 use Rattle.planner.proofs.Optimal.{rank_lt}
-use Rattle.planner.proofs.Answer.{cause_none, first_none, fine, plan_cause_none, plan_cause_most, Fitting, plan_fitting}
+use Rattle.planner.proofs.Answer.{cause_none, fine, plan_cause_none, plan_cause_most, Fitting, plan_fitting}
 use Rattle.pages.specs.declared.Cell.{Cell}
-use Rattle.answers.specs.Answers.{size_number}
-use Rattle.answers.specs.Causes as cause
-use Rattle.answers.specs.declared.SizeResult.{SizeResult}
+use Rattle.std.specs.Prelude.{Option, None, Some, Result, Ok, Err}
+use Rattle.answers.specs.Answers.{answered, answer_number}
+use Rattle.answers.specs.Causes.{number, cause_number, first_of, afterwards}
+use Rattle.answers.specs.declared.Refusal.{Refusal}
+use Rattle.answers.specs.declared.Refusal.TheVariants.{OutputFull}
+use Rattle.answers.proofs.Numbers.{numbered, first_none, answered_number, held}
 use Rattle.pages.specs.Pages.{spaces, cell_at, cell_text, place_text, lines_text, page_count, pages_length, pages_text, place_at}
 use Rattle.pages.specs.Printing.{pages_cause, pages_print, pages_printed}
 use Rattle.pages.specs.Reading.{at_place, cell_in, cells_in}
 use Rattle.pages.proofs.Lines.{place_shown, place_cell, place_blank}
 use Rattle.pages.proofs.Back.{cell_dash, cell_back, cell_seen, spaces_blank, cell_visible}
 use Rattle.pages.proofs.Bytes.{outside_places, characters, line_end}
-use Rattle.pages.proofs.Call.{value_not_refused, cells, cells_long, pages_long, places_enough}
+use Rattle.pages.proofs.Call.{cells, cells_long, pages_long, places_enough}
 
 -- ---- how many pages
 -- Each 200 bins begin a page: none has fewer places than bins, or a page more than it needs.
@@ -84,7 +87,7 @@ module _ (p : Plan) (row : List ℕ) (start end : ℕ) (x : List Float) where
       outside_places (cells p row start end x) (cells_long p row start end x) start end (50 * page_count start end) j (omega arith) n
 
   -- ---- a plan that fits: what is shown is read back
-  module _ (none : plan_cause p row start end x ≡ 0) where
+  module _ (none : plan_cause p row start end x ≡ None) where
     within : Within row start end x
     within = (cause_none row start end x (plan_cause_none p row start end x none).0).0
 
@@ -181,59 +184,55 @@ module _ (p : Plan) (row : List ℕ) (start end : ℕ) (x : List Float) where
           (ap (λ (m : ℕ). sum_over (chosen_at p.mode (gains_of p) row x start) start end + gain_word_bits p.mode m) n ∙ sym fit.payload)
 
   -- ---- the call
-  -- its number is the cause
-  pub print_number : (out : List ℕ) → size_number (pages_print p row start end x out) ≡ pages_cause p row start end x (length out)
+  -- its number is that of the cause
+  pub print_number : (out : List ℕ) → answer_number (pages_print p row start end x out) ≡ cause_number (pages_cause p row start end x (length out))
   unfolding pages_print
-  print_number out = go (pages_cause p row start end x (length out))
-    where
-      go : (k : ℕ) → size_number (cond (eqb k 0) (SizeResult.Value (pages_length start end)) (SizeResult.Refused k)) ≡ k
-      go zero = refl
-      go (suc k) = rw (ne_eqb (suc k) 0 (λ e. omega arith))
+  print_number out = answered_number (pages_cause p row start end x (length out)) (pages_length start end)
 
   -- A plan without bins prints no page, and 7 is never answered, whatever the output.
-  pub no_page : start ≡ end → (out : List ℕ) → (text ≡ []) × (size_number (pages_print p row start end x out) ≡ plan_cause p row start end x)
+  pub no_page : start ≡ end → (out : List ℕ) → (text ≡ []) × (answer_number (pages_print p row start end x out) ≡ cause_number (plan_cause p row start end x))
   unfolding pages_cause page_count pages_text lines_text from joined
   no_page e out =
       let z : page_count start end ≡ 0 = omega arith in
       let n : 50 * page_count start end ≡ 0 = omega arith in
       (ap (lines_text (cells p row start end x) start end) n, print_number out ∙ rw (le-leb (pages_length start end) (length out) (omega arith)) (go (plan_cause p row start end x)))
     where
-      go : (k : ℕ) → cause.first_of k 0 ≡ k
-      go zero = refl
-      go (suc k) = rw (ne_eqb (suc k) 0 (λ e. omega arith))
+      go : (k : Option Refusal) → cause_number (first_of k None) ≡ cause_number k
+      go None = refl
+      go (Some k) = refl
 
-  pub never_7 : start ≡ end → (out : List ℕ) → size_number (pages_print p row start end x out) ≡ cause.output_full → ⊥
-  never_7 e out q = let m = plan_cause_most p row start end x in let n = (no_page e out).1 in omega arith
+  pub never_7 : start ≡ end → (out : List ℕ) → pages_print p row start end x out ≡ Err OutputFull → ⊥
+  never_7 e out q =
+      let m = plan_cause_most p row start end x in
+      let n = (no_page e out).1 in
+      let z : answer_number (pages_print p row start end x out) ≡ 7 = ap answer_number q in
+      omega arith
 
   -- r is what print_pages answers, and `after` the output that it leaves: the pages stand at its front and the rest is
   -- kept, or all of it
-  module _ (out after : List ℕ) (r : SizeResult) (answered : r ≡ pages_print p row start end x out) (put : after ≡ pages_printed p row start end x out) where
-    abbrev number : ℕ
-    number = pages_cause p row start end x (length out)
+  module _ (out after : List ℕ) (r : Result ℕ Refusal) (is : r ≡ pages_print p row start end x out) (put : after ≡ pages_printed p row start end x out) where
+    abbrev cause : Option Refusal
+    cause = pages_cause p row start end x (length out)
 
     -- where the call answers a length, there is room
-    room_there : number ≡ 0 → pages_length start end ≤ length out
+    room_there : cause ≡ None → pages_length start end ≤ length out
     unfolding pages_cause
-    room_there h = leb-true _ _ (fine (leb (pages_length start end) (length out)) 7 (λ e. omega arith) (first_none (plan_cause p row start end x) _ h).1)
+    room_there h = leb-true _ _ (fine (leb (pages_length start end) (length out)) OutputFull (first_none (plan_cause p row start end x) _ h).1)
 
-    pub printed : (n : ℕ) → r ≡ SizeResult.Value n → (n ≡ pages_length start end) × (take n after ≡ text) × (drop n after ≡ drop n out)
+    pub printed : (n : ℕ) → r ≡ Ok n → (n ≡ pages_length start end) × (take n after ≡ text) × (drop n after ≡ drop n out)
     unfolding pages_print pages_printed
-    printed n e = go (eqb number 0) refl (sym e ∙ answered) put
+    printed n e = go cause refl (sym e ∙ is) put
       where
-        go : (t : Bool) → eqb number 0 ≡ t → SizeResult.Value n ≡ cond t (SizeResult.Value (pages_length start end)) (SizeResult.Refused number) → after ≡ cond t (splice out 0 text) out
+        go : (k : Option Refusal) → cause ≡ k → Ok n ≡ answered k (pages_length start end) → after ≡ afterwards k (splice out 0 text) out
             → (n ≡ pages_length start end) × (take n after ≡ text) × (drop n after ≡ drop n out)
-        go true q f g =
+        go None q f g =
             let i : n ≡ pages_length start end = cc in
             let l : n ≡ length text = i ∙ sym (pages_long p row start end x) in
             let z : 0 + length text ≡ n = omega arith in
-            let h = room_there (eqb-true number 0 q) in
+            let h = room_there q in
             (i, rw (g, l) (splice_read out text 0 (omega arith)), rw (g, ← z) (splice_after out text 0 (omega arith)))
-        go false q f g = absurd (value_not_refused n number f)
+        go (Some k) q f g = absurd (let z : ◌≡◌ {A = ℕ} 0 (number k) = ap answer_number f in let m = numbered k in omega arith)
 
-    pub refused_kept : (k : ℕ) → r ≡ SizeResult.Refused k → (k ≡ number) × (after ≡ out)
+    pub refused_kept : (k : Refusal) → r ≡ Err k → (cause ≡ Some k) × (after ≡ out)
     unfolding pages_print pages_printed
-    refused_kept k e = go (eqb number 0) (sym e ∙ answered) put
-      where
-        go : (t : Bool) → SizeResult.Refused k ≡ cond t (SizeResult.Value (pages_length start end)) (SizeResult.Refused number) → after ≡ cond t (splice out 0 text) out → (k ≡ number) × (after ≡ out)
-        go true f g = absurd (value_not_refused (pages_length start end) k (sym f))
-        go false f g = (cc, g)
+    refused_kept k e = let h = held cause (pages_length start end) is e in (h, put ∙ rw h)

@@ -9,7 +9,7 @@ ghost use Rattle.pages.specs.Pages.{spaces, aligned, gain_text, cell_text, cell_
 ghost use Rattle.pages.specs.Printing.{pages_print, pages_printed};
 ghost use Rattle.pages.specs.Work.{blank_lines, with_cells};
 
-use answers::SizeResult;
+use answers::Refusal;
 use planner::Plan;
 
 // What is shown of a bin; gk is 0 where the bin isn't active.
@@ -166,23 +166,18 @@ pub fn print_pages(
     end: usize,
     x: &[f32],
     out: &mut [u8],
-) -> SizeResult
+) -> Result<usize, Refusal>
     ensures value { result ≡ pages_print plan hebap.now start end x.now out.old }
     ensures out_after { out.new ≡ pages_printed plan hebap.now start end x.now out.old }
 {
-    let cause = planner::plan_cause(plan, hebap, start, end, x);
-    if cause != 0 {
-        return SizeResult::Refused(cause);
-    }
+    planner::check_plan(plan, hebap, start, end, x)?;
     // A page of 50 lines for each 200 bins begun.
     let lines = 50 * ((end - start + 199) / 200);
     if out.len() < 65 * lines {
-        return SizeResult::Refused(answers::OUTPUT_FULL);
+        return Err(Refusal::OutputFull);
     }
-    let mode = plan.mode;
-    let count = plan.count;
-    let gains = plan.gains;
+    let gains = &plan.gains[..plan.count];
     put_blank(&mut *out, lines);
-    put_cells(out, mode, &gains[..count], hebap, start, end, x);
-    SizeResult::Value(65 * lines)
+    put_cells(out, plan.mode, gains, hebap, start, end, x);
+    Ok(65 * lines)
 }
