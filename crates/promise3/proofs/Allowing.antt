@@ -5,6 +5,8 @@ use mathlib.Core.List.{List}
 use mathlib.Core.Logic.{◌↔◌}
 use native.Mathlib.Nat.{pos_of_ne-zero}
 use lib.Ieee.{Float}
+use Rattle.std.specs.Prelude.{None}
+use Rattle.answers.proofs.Numbers.{no_number}
 use Rattle.channel.proofs.Over.{none_there}
 use Rattle.channel.proofs.Rows.{known_hebap}
 use Rattle.planner.specs.Planning.{too_large_at, cause_of}
@@ -14,7 +16,7 @@ use Rattle.promise3.specs.Promise.{Allowed}
 use Rattle.promise3.proofs.Plans.{given}
 
 module _ (row : List ℕ) (start end : ℕ) (x : List Float) where
-  pub cause_allowed : cause_of row start end x ≡ 0 → Allowed row start end x
+  pub cause_allowed : cause_of row start end x ≡ None → Allowed row start end x
   cause_allowed h =
       let c = cause_none row start end x h in
       let w = c.0.row_ok in
@@ -28,5 +30,5 @@ module _ (row : List ℕ) (start end : ℕ) (x : List Float) where
       }
 
   -- Allowed exactly when none of causes 1 to 5 holds.
-  pub allowed_exactly : Allowed row start end x ↔ (cause_of row start end x ≡ 0)
-  allowed_exactly = (λ a. sym (refusal_is row start end x) ∙ given row start end x a, cause_allowed)
+  pub allowed_exactly : Allowed row start end x ↔ (cause_of row start end x ≡ None)
+  allowed_exactly = (λ a. no_number (cause_of row start end x) (sym (refusal_is row start end x) ∙ given row start end x a), cause_allowed)

@@ -8,7 +8,7 @@ use borrow.Author.Tests.{le-leb, ne_eqb}
 use lib.IntN.{pos}
 use lib.ListN.{length, length-append, length-replicate, get_or, take, drop, replicate, drop_of_length-le}
 use lib.Seq.{drop-cons, take-length}
-use Rattle.answers.specs.Answers.{byte_value, size_value}
+use Rattle.answers.specs.Answers.{value_or, answer_number}
 use Rattle.bits.specs.Bits.{bits_n, bits_of, splice}
 use Rattle.bits.specs.Format.{Got, number, each_enc}
 use Rattle.bits.proofs.Laws.{length_bits_n, splice_read}
@@ -22,7 +22,7 @@ use Rattle.channel.proofs.Rows.{known_hebap, none_active, count_start}
 use Rattle.channel.proofs.Laws.{lenient_laws, field_lawful}
 use Rattle.channel.proofs.Parts.{Parts, gain_words_count}
 use Rattle.channel.proofs.Shown.{values_long}
-use Rattle.reader.specs.Reading.{Call, answer_to, values_after, with_shown}
+use Rattle.reader.specs.Reading.{Call, answer_to, values_after, with_shown, channel_answered}
 use Rattle.promise3.proofs.Places.{padded_gains}
 use Rattle.promise3.proofs.Calls.{accepted_found, stands, ok, answer_mode, answer_count, answer_gains, answer_bits}
 use Rattle.promise3.specs.Aht.{took, aht_behind, aht_read}
@@ -51,11 +51,11 @@ marked_active mode row start end o n =
 
 -- ---- what the small functions answer
 module _ (mode : ℕ) (few : mode ≤ 3) (hs : List ℕ) where
-  count_is : size_value 0 (fill_gaqbin mode hs (length hs)) ≡ marked_bins mode hs
+  count_is : value_or 0 (fill_gaqbin mode hs (length hs)) ≡ marked_bins mode hs
   unfolding fill_gaqbin
   count_is = rw (le-leb mode 3 few, take-length hs)
 
-  sections_are : (n : ℕ) → size_value 0 (gaq_sections mode n) ≡ sections mode n
+  sections_are : (n : ℕ) → value_or 0 (gaq_sections mode n) ≡ sections mode n
   unfolding gaq_sections
   sections_are n = rw (le-leb mode 3 few)
 
@@ -65,7 +65,7 @@ module _ (mode : ℕ) (few : mode ≤ 3) (hs : List ℕ) where
       let l = length-replicate (length hs) (pos 0) in
       rw (le-leb mode 3 few, l, take-length hs, drop_of_length-le (replicate (length hs) (pos 0)) {i = length hs} (omega arith), append-nil)
 
-  values_are : (codes : List ℕ) → map (λ code. byte_value 0 (gaq_gain_value code mode)) codes ≡ map (λ code. gain_value code mode) codes
+  values_are : (codes : List ℕ) → map (λ code. value_or 0 (gaq_gain_value code mode)) codes ≡ map (λ code. gain_value code mode) codes
   unfolding gaq_gain_value
   values_are codes = rw (le-leb mode 3 few)
 
@@ -110,8 +110,8 @@ module _ (row : List ℕ) (start end : ℕ) (ch : Channel) (p : Parts lenient ro
 
 -- Wherever the channel reader accepts, the functions of aht.rs, one after another from the same position, give the same
 -- mode, the same gains and the same f32, and end at the same position.
-pub reading_is_aht : (row : List ℕ) (start end : ℕ) (c : Call) → (answer_to row start end c).refusal ≡ 0
-    → let r = answer_to row start end c in
+pub reading_is_aht : (row : List ℕ) (start end : ℕ) (c : Call) → answer_number (answer_to row start end c) ≡ 0
+    → let r = channel_answered row start end c in
     aht_read row start end c.src c.at
     ≡ took (record { mode = r.mode; gains = take r.count r.gains; values = take (6 * (end - start)) (drop (6 * start) (values_after row start end c)) }) (c.at + r.bits)
 reading_is_aht row start end c h =
@@ -124,7 +124,7 @@ reading_is_aht row start end c h =
     let t =
     channel_taken row start end ch p k.ordered k.rows (λ j l u. known_hebap row start end j k.known l u) c.src c.at f.rest
     (record { inside = w.inside; bits = o }) in
-    let g : take (answer_to row start end c).count (answer_to row start end c).gains ≡ ch.gains =
+    let g : take (channel_answered row start end c).count (channel_answered row start end c).gains ≡ ch.gains =
     rw (answer_count row start end c f, answer_gains row start end c f) (padded_gains ch.gains) in
     let n = values_long lenient row start end ch p in
     let i = w.long.0 in

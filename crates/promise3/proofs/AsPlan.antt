@@ -16,7 +16,7 @@ use Rattle.channel.specs.Row.{active_count, six_of}
 use Rattle.channel.proofs.Over.{sum_none, sum_next}
 use Rattle.planner.specs.Cost.{bin_bits}
 use Rattle.planner.specs.Choice.{cheapest, least_up_to, best_gain, least_at, least_of, plan_mode, gains_over, plan_gains, plan_payload}
-use Rattle.planner.specs.Planning.{plan_of, planned}
+use Rattle.planner.specs.Planning.{plan_of, planned, plan_answered}
 use Rattle.planner.proofs.Answer.{answer_plan}
 use Rattle.planner.proofs.Codes.{bin_scalar, bin_most}
 use Rattle.planner.proofs.Optimal.{cheapest_same, gains_step, gains_stay, gains_none, gains_length, first_least}
@@ -254,5 +254,5 @@ module _ (row : List ℕ) (x : List Float) (start end : ℕ) where
       sym (ap plan_from (loop_modes 3 (omega arith)) ∙ a)
 
   -- For every row, bins and vectors that are allowed, the plan is the one that the loops of plan_aht_channel find.
-  pub planning_is_ahtenc : Allowed row start end x → (planned row start end x).plan ≡ plan_from (aht_plan row x start end)
+  pub planning_is_ahtenc : Allowed row start end x → plan_answered row start end x ≡ plan_from (aht_plan row x start end)
   planning_is_ahtenc a = answer_plan row start end x (given row start end x a) ∙ plan_is

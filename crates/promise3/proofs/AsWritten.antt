@@ -9,6 +9,11 @@ use lib.Dec.{eqb, leb, ltb}
 use lib.Ieee.{Float}
 use lib.ListN.{length, length-append, get_or, drop, replicate}
 use lib.Seq.{drop-drop, drop-cons}
+use Rattle.answers.specs.declared.Refusal.{Refusal}
+use Rattle.std.specs.Prelude.{Some, None, Option}
+use Rattle.answers.proofs.Numbers.{numbered}
+use Rattle.answers.specs.Causes.{afterwards}
+use Rattle.answers.specs.Answers.{answer_number, value_or, answered}
 use Rattle.bits.specs.Bits.{bits_n, pos_of, bytes_with, written}
 use Rattle.bits.specs.Format.{number, only, shown, each, each_enc}
 use Rattle.bits.proofs.Laws.{length_bits_n, length_with, with_more}
@@ -29,9 +34,7 @@ use Rattle.channel.specs.Field.{gain_code, gain_bit, group_words, gain_words, le
 use Rattle.channel.proofs.Over.{sum_next}
 use Rattle.channel.proofs.Rows.{count_start, known_hebap}
 use Rattle.writer.proofs.Channel.{six_long}
-use Rattle.writer.specs.Written.{codes_of, item_of, written_at, written_of, field_of, write_cause, channel_write, channel_write_up_to, channel_written, channel_written_up_to, write_number, write_place}
-use Rattle.writer.specs.declared.ChannelWrite.{ChannelWrite}
-use Rattle.writer.specs.declared.ChannelWrite.TheVariants.{Done}
+use Rattle.writer.specs.Written.{codes_of, item_of, written_at, written_of, field_of, write_cause, channel_write, channel_write_up_to, channel_written, channel_written_up_to}
 use Rattle.writer.proofs.Planned.{fits_long, written_when}
 use Rattle.planner.specs.Choice.{Choice}
 use Rattle.planner.specs.Planning.{total_of, gains_of}
@@ -319,11 +322,11 @@ module _ (p : Plan) (row : List ℕ) (start end : ℕ) (x : List Float) (places 
   abbrev calls : List Write
   calls = plan_writes p row start end x
 
-  abbrev cause : List ℕ → ℕ → ℕ
+  abbrev cause : List ℕ → ℕ → Option Refusal
   cause out at = write_cause p row start end x (8 * length out) at
 
   -- the calls put the field
-  calls_put : (out : List ℕ) (at : ℕ) → cause out at ≡ 0 → (bytes_with out at (field_of p row start end x) ≡ after_writes out at calls) × (at + total_of p ≡ behind_writes at calls)
+  calls_put : (out : List ℕ) (at : ℕ) → cause out at ≡ None → (bytes_with out at (field_of p row start end x) ≡ after_writes out at calls) × (at + total_of p ≡ behind_writes at calls)
   unfolding aht_writes
   calls_put out at z =
       let w = written_when p row start end x places (8 * length out) at z in
@@ -344,14 +347,14 @@ module _ (p : Plan) (row : List ℕ) (start end : ℕ) (x : List Float) (places 
 
   -- Where the writer writes, the output and the position afterwards are those after the calls of write_u32 that
   -- write_aht_channel of the Rust makes, one after another from the same position.
-  pub writing_is_ahtenc : (out : List ℕ) (at : ℕ) → write_number (channel_write p row start end x out at) ≡ 0
+  pub writing_is_ahtenc : (out : List ℕ) (at : ℕ) → answer_number (channel_write p row start end x out at) ≡ 0
       → (channel_written p row start end x out at ≡ after_writes out at calls)
-      × (write_place (pos_of at) (channel_write p row start end x out at) ≡ pos_of (behind_writes at calls))
+      × (value_or (pos_of at) (channel_write p row start end x out at) ≡ pos_of (behind_writes at calls))
   unfolding channel_write_up_to channel_written_up_to
-  writing_is_ahtenc out at = go (eqb (cause out at) 0) refl
+  writing_is_ahtenc out at = go (cause out at) refl
     where
-      go : (t : Bool) → eqb (cause out at) 0 ≡ t → let r = cond t (Done (pos_of (at + total_of p))) (ChannelWrite.Refused (cause out at)) in
-          write_number r ≡ 0
-          → (cond t (bytes_with out at (field_of p row start end x)) out ≡ after_writes out at calls) × (write_place (pos_of at) r ≡ pos_of (behind_writes at calls))
-      go true e h = let c = calls_put out at (eqb-true _ _ e) in (c.0, ap pos_of c.1)
-      go false e h = absurd (eqb-false (cause out at) 0 e h)
+      go : (k : Option Refusal) → cause out at ≡ k → let r = answered k (pos_of (at + total_of p)) in
+          answer_number r ≡ 0
+          → (afterwards k (bytes_with out at (field_of p row start end x)) out ≡ after_writes out at calls) × (value_or (pos_of at) r ≡ pos_of (behind_writes at calls))
+      go None e h = let c = calls_put out at e in (c.0, ap pos_of c.1)
+      go (Some k) e h = absurd (let n = numbered k in omega arith)

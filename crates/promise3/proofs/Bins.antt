@@ -10,6 +10,7 @@ use lib.IntN.{pos}
 use lib.Ieee.{Float, nan}
 use lib.ListN.{length, drop, get_or, length-map}
 use lib.Seq.{get_or-take, get_or-drop}
+use Rattle.std.specs.Prelude.{Ok}
 use Rattle.gains.specs.Gains.{active}
 use Rattle.gains.specs.declared.Coding.{Coding}
 use Rattle.gains.proofs.Cases.{active_range, coding_book, coding_scalar, three_gains_lem}
@@ -18,8 +19,7 @@ use Rattle.levels.specs.Exact.{exact_of}
 use Rattle.levels.specs.Value.{value_in, value_of}
 use Rattle.levels.specs.declared.Code.{Code}
 use Rattle.books.specs.Books.{search_of}
-use Rattle.quantiser.specs.Quantise.{picked, allowed, quantised, quantised_up_to}
-use Rattle.quantiser.specs.declared.PickResult.{PickResult}
+use Rattle.quantiser.specs.Quantise.{picked, allowed, quantised, quantised_up_to, code_level}
 use Rattle.quantiser.proofs.Facts.{picked_level}
 use Rattle.channel.specs.Row.{active_count, gain_at, six_of}
 use Rattle.channel.specs.Field.{Bin, book, scalar, Item, nothing, coded_as, bin_of, bin_at}
@@ -120,7 +120,7 @@ module _ (mode : ℕ) (gains row : List ℕ) (x : List Float) (start end : ℕ) 
               (three_gains_lem mode (get_or gains (active_count mode row start k) 0) (λ g. eqb g 1 || (eqb g 2 || eqb g 4) ≡ true) (choice.allowed (active_count mode row start k) (omega arith)) refl refl refl)
           go false e = refl
 
-      pub pick_given : some_too_large (six_of x k) ≡ false → quantised h g y ≡ PickResult.Picked (picked h g y).0 (picked h g y).1
+      pub pick_given : some_too_large (six_of x k) ≡ false → quantised h g y ≡ Ok (code_level (picked h g y))
       unfolding quantised_up_to
       pick_given fine =
           let s = six_long x k (omega arith) in

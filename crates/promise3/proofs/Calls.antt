@@ -11,9 +11,15 @@ use lib.Dec.{eqb, leb}
 use lib.IntN.{pos}
 use lib.Ieee.{nan}
 use lib.ListN.{length, drop, get_or, length-drop}
+use Rattle.answers.specs.declared.Refusal.{Refusal}
+use Rattle.std.specs.Prelude.{Result}
+use Rattle.answers.proofs.Numbers.{numbered}
+use Rattle.answers.specs.Answers.{answer_number, value_or}
 use Rattle.bits.specs.Bits.{bits_of}
 use Rattle.bits.specs.Format.{Got, got, refused}
 use Rattle.bits.proofs.Laws.{length_bits_of}
+use Rattle.channel.specs.Row.{no_gains}
+use Rattle.reader.specs.declared.ChannelRead.{ChannelRead}
 use Rattle.channel.specs.Field.{Bin, lenient, bin_at, Channel, field}
 use Rattle.channel.specs.Shown.{values_of, exacts_of, index_of, values_shown, exacts_shown, indices_shown, item_at}
 use Rattle.channel.proofs.Laws.{lenient_laws, field_lawful}
@@ -21,9 +27,13 @@ use Rattle.channel.proofs.Parts.{Parts, parts}
 use Rattle.channel.proofs.Shown.{values_long, exacts_long, indices_long, values_at, exacts_at_lem, index_at}
 use Rattle.channel.proofs.Fields.{field_used}
 use Rattle.channel.proofs.Refusals.{FieldWhy, field_why}
-use Rattle.reader.specs.Reading.{Call, read_cause, found, answer_to, values_after, exact_after, indices_after, read_answer, with_shown}
+use Rattle.reader.specs.Reading.{Call, read_cause, found, answer_to, values_after, exact_after, indices_after, read_answer, with_shown, channel_answered}
 use Rattle.reader.proofs.Causes.{FoundAt, found_got}
 use Rattle.promise3.proofs.Places.{one_place, six_place, padded}
+
+-- what is answered, or zeros
+abbrev shown_of : Result ChannelRead Refusal → ChannelRead
+shown_of = value_or (record { mode = 0; gains = no_gains; count = 0; bits = 0 })
 
 module _ (row : List ℕ) (start end : ℕ) (c : Call) where
   abbrev bits : List Bool
@@ -38,36 +48,12 @@ module _ (row : List ℕ) (start end : ℕ) (c : Call) where
     pub rest : List Bool
     pub is : found row start end c ≡ got channel rest
 
-  -- no refusal has the number 0
-  abbrev Numbered : Got Channel → Type 0
-  Numbered (got ch rest) = Unit {0}
-  Numbered (refused k) = 1 ≤ k
-
-  field_numbered : Numbered ((field row start end).dec bits)
-  field_numbered = go ((field row start end).dec bits) (field_why row start end bits)
+  pub accepted_found : answer_number (answer_to row start end c) ≡ 0 → Found
+  accepted_found h = go (found row start end c) refl h
     where
-      go : (t : Got Channel) → FieldWhy row start end bits t → Numbered t
-      go (got ch rest) y = tt
-      go (refused k) (inl y) = omega arith
-      go (refused k) (inr (inl (y, w))) = omega arith
-      go (refused k) (inr (inr (y, w))) = omega arith
-
-  numbered : Numbered (found row start end c)
-  unfolding found
-  numbered = go (eqb (read_cause row start end c) 0) refl (leb c.at (8 * length c.src))
-    where
-      go : (t : Bool) → eqb (read_cause row start end c) 0 ≡ t → (b : Bool)
-          → Numbered (cond t (cond b ((field row start end).dec bits) (refused 8)) (refused (read_cause row start end c)))
-      go true e true = field_numbered
-      go true e false = omega arith
-      go false e b = pos_of_ne-zero (eqb-false (read_cause row start end c) 0 e)
-
-  pub accepted_found : (answer_to row start end c).refusal ≡ 0 → Found
-  accepted_found h = go (found row start end c) (λ ch rest e. record { channel = ch; rest = rest; is = e }) numbered h
-    where
-      go : (t : Got Channel) → ((ch : Channel) (rest : List Bool) → t ≡ got ch rest → Found) → Numbered t → (read_answer left t).refusal ≡ 0 → Found
-      go (got ch rest) f z q = f ch rest refl
-      go (refused k) f z q = absurd (omega arith)
+      go : (t : Got Channel) → found row start end c ≡ t → answer_number (read_answer left t) ≡ 0 → Found
+      go (got ch rest) e q = record { channel = ch; rest = rest; is = e }
+      go (refused k) e q = absurd (let n = numbered k in omega arith)
 
   -- ---- and where it finds one,
   module _ (f : Found) where
@@ -82,19 +68,19 @@ module _ (row : List ℕ) (start end : ℕ) (c : Call) where
     ok = parts lenient row start end ch ((field_lawful lenient lenient_laws row start end).sole bits f.rest ch stands.is).1
 
     -- ---- the answer
-    pub answer_mode : (answer_to row start end c).mode ≡ ch.mode
-    answer_mode = ap (λ (t : Got Channel). (read_answer left t).mode) f.is
+    pub answer_mode : (channel_answered row start end c).mode ≡ ch.mode
+    answer_mode = ap (λ (t : Got Channel). (shown_of (read_answer left t)).mode) f.is
 
-    pub answer_count : (answer_to row start end c).count ≡ length ch.gains
-    answer_count = ap (λ (t : Got Channel). (read_answer left t).count) f.is
+    pub answer_count : (channel_answered row start end c).count ≡ length ch.gains
+    answer_count = ap (λ (t : Got Channel). (shown_of (read_answer left t)).count) f.is
 
-    pub answer_gains : (answer_to row start end c).gains ≡ padded ch.gains
-    answer_gains = ap (λ (t : Got Channel). (read_answer left t).gains) f.is
+    pub answer_gains : (channel_answered row start end c).gains ≡ padded ch.gains
+    answer_gains = ap (λ (t : Got Channel). (shown_of (read_answer left t)).gains) f.is
 
-    pub answer_bits : (answer_to row start end c).bits ≡ length ((field row start end).enc ch)
+    pub answer_bits : (channel_answered row start end c).bits ≡ length ((field row start end).enc ch)
     answer_bits =
         let l : length bits ≡ left = length-drop c.at (bits_of c.src) ∙ ap (λ (n : ℕ). n - c.at) (length_bits_of c.src) in
-        ap (λ (t : Got Channel). (read_answer left t).bits) f.is ∙ ap (λ (n : ℕ). n - length f.rest) (sym l)
+        ap (λ (t : Got Channel). (shown_of (read_answer left t)).bits) f.is ∙ ap (λ (n : ℕ). n - length f.rest) (sym l)
         ∙ field_used lenient lenient_laws row start end bits f.rest ch stands.is
 
     -- ---- the outputs at the bin k

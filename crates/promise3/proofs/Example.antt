@@ -7,15 +7,16 @@ use mathlib.Core.Logic.{◌↔◌}
 use native.Mathlib.Omega.{arith}
 use lib.Ieee.{of_bits}
 use lib.ListN.{length}
+use Rattle.std.specs.Prelude.{Ok}
+use Rattle.answers.specs.Answers.{answer_number, value_or}
 use Rattle.levels.specs.Component.{beyond}
 use Rattle.channel.specs.Bins.{some_over}
 use Rattle.channel.specs.Row.{unknown_at, row_cause}
 use Rattle.planner.specs.Choice.{Choice, choice_bits}
-use Rattle.planner.specs.Planning.{beyond_at, cause_up_to, planned, total_of}
+use Rattle.planner.specs.Planning.{beyond_at, cause_up_to, planned, total_of, plan_answered}
 use Rattle.planner.specs.declared.Plan.{Plan}
-use Rattle.planner.specs.declared.Planned.{Planned}
 use Rattle.writer.specs.Written.{field_of, channel_written}
-use Rattle.reader.specs.Reading.{Call, answer_to}
+use Rattle.reader.specs.Reading.{Call, answer_to, channel_answered}
 use Rattle.promise3.specs.Promise.{Allowed, accepted_field, SameShown, ShowsPlan}
 use Rattle.promise3.proofs.Allowing.{allowed_exactly}
 use Rattle.promise3.proofs.Points.{desk_row, desk_vectors, desk_plan, reading, points}
@@ -34,12 +35,12 @@ desk_call = reading desk_bytes 2
 
 pub record DeskPromise : Type 0 where
   -- The planner gives a plan,
-  pub given : planned desk_row 0 2 desk_vectors ≡ record { refusal = 0; plan = desk_plan }
+  pub given : planned desk_row 0 2 desk_vectors ≡ Ok desk_plan
   -- and with enough space the field written from it has exactly the plan's total of bits.
   pub written : channel_written desk_plan desk_row 0 2 desk_vectors (0 ∷ 0 ∷ []) 0 ≡ desk_bytes
   pub total : total_of desk_plan ≡ 15
   -- The channel reader accepts that field for the row and bins.
-  pub is_accepted : ((answer_to desk_row 0 2 desk_call).refusal ≡ 0) × ((answer_to desk_row 0 2 desk_call).bits ≡ 15)
+  pub is_accepted : (answer_number (answer_to desk_row 0 2 desk_call) ≡ 0) × ((channel_answered desk_row 0 2 desk_call).bits ≡ 15)
       × (accepted_field desk_row 0 2 desk_call ≡ field_of desk_plan desk_row 0 2 desk_vectors)
   -- It shows the plan's mode and gains and the quantiser's values.
   pub shown : ShowsPlan desk_plan desk_row 0 2 desk_vectors desk_call
@@ -47,13 +48,13 @@ pub record DeskPromise : Type 0 where
   pub least : (mode : ℕ) (gains : List ℕ) → Choice mode gains desk_row 0 2 → 15 ≤ choice_bits mode gains desk_row desk_vectors 0 2
   pub lowest : (mode : ℕ) (gains : List ℕ) → Choice mode gains desk_row 0 2 → mode < 1 → 15 < choice_bits mode gains desk_row desk_vectors 0 2
   -- Any field that the reader accepts for the row and bins equals this one exactly when it shows the same.
-  pub equal : (c : Call) → (answer_to desk_row 0 2 c).refusal ≡ 0 → (accepted_field desk_row 0 2 c ≡ accepted_field desk_row 0 2 desk_call) ↔ SameShown desk_row 0 2 c desk_call
+  pub equal : (c : Call) → answer_number (answer_to desk_row 0 2 c) ≡ 0 → (accepted_field desk_row 0 2 c ≡ accepted_field desk_row 0 2 desk_call) ↔ SameShown desk_row 0 2 c desk_call
 
 abbrev p : Plan
-p = (planned desk_row 0 2 desk_vectors).plan
+p = plan_answered desk_row 0 2 desk_vectors
 
 plan_is : p ≡ desk_plan
-plan_is = ap (λ (r : Planned). r.plan) points.p11.5
+plan_is = ap (value_or _) points.p11.5
 
 bytes_are : channel_written desk_plan desk_row 0 2 desk_vectors (0 ∷ 0 ∷ []) 0 ≡ desk_bytes
 bytes_are = points.p11.7
@@ -70,7 +71,7 @@ of_desk : (P : Plan → Call → Type 0) → P p (after p) → P desk_plan desk_
 of_desk P h = subst (λ (s : List ℕ). P desk_plan (reading s 2)) bytes_are (subst (λ (q : Plan). P q (after q)) plan_is h)
 
 abbrev Accepts : Plan → Call → Type 0
-Accepts q c = ((answer_to desk_row 0 2 c).refusal ≡ 0) × ((answer_to desk_row 0 2 c).bits ≡ total_of q) × (accepted_field desk_row 0 2 c ≡ field_of q desk_row 0 2 desk_vectors)
+Accepts q c = (answer_number (answer_to desk_row 0 2 c) ≡ 0) × ((channel_answered desk_row 0 2 c).bits ≡ total_of q) × (accepted_field desk_row 0 2 c ≡ field_of q desk_row 0 2 desk_vectors)
 
 accepts : Accepts desk_plan desk_call
 accepts = of_desk Accepts (accepted desk_row 0 2 desk_vectors desk_allowed (0 ∷ 0 ∷ []) 0 space _ _ _ (omega arith, omega arith, omega arith))

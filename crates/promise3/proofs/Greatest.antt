@@ -9,6 +9,7 @@ use native.Mathlib.Omega.{arith}
 use lib.Ieee.{Float, nan, sub, mul, div, le, of_int, of_bits, is_nan}
 use lib.ListN.{length, length-replicate, get_or, get_or-replicate, drop, replicate}
 use lib.Seq.{get_or-take, get_or-drop, ext_get_or}
+use Rattle.answers.specs.Answers.{answer_number}
 use Rattle.tables.specs.Numbers.{mant_bits_table, gaq_remap_table}
 use Rattle.tables.specs.Tables.{mant_bits, gaq_remap_at}
 use Rattle.gains.specs.Gains.{endbap, active, other_gains, allowed_gain, word_bits, sections, gain_word_bits}
@@ -30,13 +31,13 @@ use Rattle.planner.specs.declared.Plan.{Plan}
 use Rattle.writer.specs.Written.{field_of}
 use Rattle.writer.proofs.Channel.{six_long}
 use Rattle.writer.proofs.Planned.{fits_long}
-use Rattle.reader.specs.Reading.{Call, answer_to}
+use Rattle.reader.specs.Reading.{Call, answer_to, channel_answered}
 use Rattle.promise3.specs.Promise.{Allowed}
 use Rattle.promise3.proofs.Allowing.{allowed_exactly}
 use Rattle.promise3.proofs.Calls.{accepted_found, stands, ok, answer_bits}
 
 -- No field that the channel reader accepts has more bits either.
-pub accepted_most : (row : List ℕ) (start end : ℕ) (c : Call) → (answer_to row start end c).refusal ≡ 0 → (answer_to row start end c).bits ≤ 31152
+pub accepted_most : (row : List ℕ) (start end : ℕ) (c : Call) → answer_number (answer_to row start end c) ≡ 0 → (channel_answered row start end c).bits ≤ 31152
 accepted_most row start end c h =
     let f = accepted_found row start end c h in
     let o = parts_ok lenient row start end f.channel (ok row start end c f) in

@@ -9,8 +9,11 @@ use borrow.Author.Tests.{eqb-true}
 use lib.Dec.{eqb, leb}
 use lib.ListN.{length}
 use lib.Ieee.{Float}
-use Rattle.answers.specs.Answers.{size_number}
-use Rattle.answers.specs.Causes as cause
+use Rattle.answers.specs.declared.Refusal.TheVariants.{OutputFull}
+use Rattle.answers.specs.declared.Refusal.{Refusal}
+use Rattle.std.specs.Prelude.{Some, None, Option}
+use Rattle.answers.specs.Causes.{cause_number, first_of}
+use Rattle.answers.specs.Answers.{answer_number}
 use Rattle.gains.specs.Gains.{gain_word_bits}
 use Rattle.channel.specs.Bins.{sum_over}
 use Rattle.planner.specs.declared.Plan.{Plan}
@@ -18,7 +21,7 @@ use Rattle.levels.specs.Component.{largest_size}
 use Rattle.planner.specs.Planning.{gains_of, total_of}
 use Rattle.planner.specs.Fit.{plan_cause}
 use Rattle.planner.proofs.Answer.{plan_cause_none, plan_fitting}
-use Rattle.writer.specs.Written.{field_of, write_number, write_cause_up_to, channel_write}
+use Rattle.writer.specs.Written.{field_of, write_cause_up_to, channel_write}
 use Rattle.writer.proofs.Channel.{bin_few}
 use Rattle.writer.proofs.Planned.{fits_long}
 use Rattle.writer.proofs.Wider.{write_number_lem}
@@ -30,34 +33,34 @@ use Rattle.pages.proofs.Printed.{bin_read_lem, bits_add_up, print_number}
 module _ (p : Plan) (row : List ℕ) (start end : ℕ) (x : List Float) where
   -- Refusals 1 to 6 of print_pages are those of write_aht_channel, whatever the two outputs.
   pub as_writer : (out other : List ℕ) (at k : ℕ) → 1 ≤ k → k ≤ 6
-      → (write_number (channel_write p row start end x out at) ≡ k) ↔ (size_number (pages_print p row start end x other) ≡ k)
+      → (answer_number (channel_write p row start end x out at) ≡ k) ↔ (answer_number (pages_print p row start end x other) ≡ k)
   unfolding write_cause_up_to pages_cause
   as_writer out other at k l u =
       let room = leb (at + total_of p) (8 * length out) in
       let long = leb (pages_length start end) (length other) in
       rw (write_number_lem p row start end x out at largest_size, print_number p row start end x other) (λ e. to long (from room e), λ e. to room (from long e))
     where
-      c : ℕ
+      c : Option Refusal
       c = plan_cause p row start end x
 
-      -- both are c, where it is not 0
-      from : (t : Bool) → cause.first_of c (cond t 0 7) ≡ k → c ≡ k
-      from t e = go (eqb c 0) t e
+      -- both are c, where there is one
+      from : (t : Bool) → cause_number (first_of c (cond t None (Some OutputFull))) ≡ k → cause_number c ≡ k
+      from t e = go c t e
         where
-          go : (z t : Bool) → cond z (cond t 0 7) c ≡ k → c ≡ k
-          go true true e = absurd (omega arith)
-          go true false e = absurd (omega arith)
-          go false t e = e
+          go : (d : Option Refusal) (t : Bool) → cause_number (first_of d (cond t None (Some OutputFull))) ≡ k → cause_number d ≡ k
+          go None true e = absurd (omega arith)
+          go None false e = absurd (omega arith)
+          go (Some j) t e = e
 
-      to : (t : Bool) → c ≡ k → cause.first_of c (cond t 0 7) ≡ k
-      to t e = go (eqb c 0) refl
+      to : (t : Bool) → cause_number c ≡ k → cause_number (first_of c (cond t None (Some OutputFull))) ≡ k
+      to t e = go c e
         where
-          go : (z : Bool) → eqb c 0 ≡ z → cond z (cond t 0 7) c ≡ k
-          go true q = let z = eqb-true c 0 q in absurd (omega arith)
-          go false q = e
+          go : (d : Option Refusal) → cause_number d ≡ k → cause_number (first_of d (cond t None (Some OutputFull))) ≡ k
+          go None e = absurd (omega arith)
+          go (Some j) e = e
 
   -- ---- a plan that fits
-  module _ (none : plan_cause p row start end x ≡ 0) (places : length p.gains ≡ 256) where
+  module _ (none : plan_cause p row start end x ≡ None) (places : length p.gains ≡ 256) where
     -- Its field has the two bits of the mode, the gain words, and the bits that its pages show,
     pub field_as_shown : length (field_of p row start end x)
         ≡ 2 + (sum_over (λ k. (cell_in (at_place (pages_text p row start end x) (k - start))).bits) start end + gain_word_bits p.mode p.count)

@@ -11,6 +11,7 @@ use lib.Ieee.{Float}
 use lib.IntN.{ℤ}
 use lib.ListN.{length, drop, get_or}
 use lib.Seq.{get_or-take}
+use Rattle.answers.specs.Answers.{answer_number}
 use Rattle.bits.specs.Bits.{bits_of}
 use Rattle.bits.specs.Format.{got}
 use Rattle.bits.proofs.Laws.{bits_with, length_with}
@@ -18,10 +19,10 @@ use Rattle.gains.specs.Gains.{active}
 use Rattle.levels.specs.Component.{some_too_large}
 use Rattle.channel.specs.Bins.{some_over}
 use Rattle.channel.specs.Row.{active_count, gain_at, six_of, unknown_at}
-use Rattle.channel.proofs.Rows.{cause_4_or_0}
+use Rattle.channel.proofs.Rows.{cause_4_or_none}
 use Rattle.channel.proofs.Over.{none_over}
 use Rattle.planner.specs.Choice.{plan_gains}
-use Rattle.planner.specs.Planning.{too_large_at, beyond_at, plan_of, planned, total_of, gains_of}
+use Rattle.planner.specs.Planning.{too_large_at, beyond_at, plan_of, planned, total_of, gains_of, plan_answered}
 use Rattle.planner.specs.Work.{Within}
 use Rattle.planner.specs.declared.Plan.{Plan}
 use Rattle.planner.proofs.Answer.{answer_given, answer_plan}
@@ -35,7 +36,7 @@ use Rattle.promise3.proofs.Places.{padded, padded_gains}
 
 module _ (row : List ℕ) (start end : ℕ) (x : List Float) (a : Allowed row start end x) where
   abbrev p : Plan
-  p = (planned row start end x).plan
+  p = plan_answered row start end x
 
   -- ---- none of causes 1 to 5 holds
   known : some_over (unknown_at row) start end ≡ false
@@ -54,7 +55,7 @@ module _ (row : List ℕ) (start end : ℕ) (x : List Float) (a : Allowed row st
   vectors_in = record { row_ok = record { ordered = a.ordered; few = a.few; rows = a.rows; known = known }; vectors = a.vectors }
 
   -- ---- the plan
-  pub given : (planned row start end x).refusal ≡ 0
+  pub given : answer_number (planned row start end x) ≡ 0
   given = answer_given row start end x vectors_in inside
 
   gains_are : gains_of p ≡ plan_gains row x start end
@@ -93,7 +94,7 @@ module _ (row : List ℕ) (start end : ℕ) (x : List Float) (a : Allowed row st
       let n = field_long row start end x given in
       let w = (is_written row start end x given out at space).1 in
       let short : ltb (length v) (6 * end) || (ltb (length e) (6 * end) || ltb (length i) end) ≡ false = rw (le-ltb (length v) (6 * end) long.0, le-ltb (length e) (6 * end) long.1, le-ltb (length i) end long.2) in
-      let cause = sym (cause_4_or_0 row start end _ a.ordered a.few a.rows false short known) in
+      let cause = cause_4_or_none row start end _ a.ordered a.few a.rows false short known in
       let same : length s ≡ length out = ap length w ∙ length_with out at f in
       let put = ap bits_of w ∙ bits_with out at f (omega arith) in
       let r = channel_read p.mode (gains_of p) row x start end vectors_in inside (choice row start end x given) out s at (omega arith) put in

@@ -1,43 +1,42 @@
 -- The functions of aht.rs one after another, as a decoder calls them for a channel (ATSC A/52 Annex E, 3.4): two bits
 -- of chgaqmod, fill_gaqbin, gaq_sections, read_gaq_gains a section at a time, then bin by bin vq_lookup of an index, or
 -- read_scalar_aht_mantissas. Each is the definition that the contract of its call cites.
-use Rattle.std.specs.Prelude.{ℕ, zero, suc, ◌*◌, ◌-◌, cond, List, [], ◌∷◌, ◌++◌, map, ℤ, pos, negsuc, eqb, length, get_or, take, drop, replicate, Float}
-use Rattle.answers.specs.Answers.{byte_value, size_value}
+use Rattle.std.specs.Prelude.{ℕ, zero, suc, ◌*◌, ◌-◌, cond, List, [], ◌∷◌, ◌++◌, map, ℤ, pos, negsuc, eqb, length, get_or, take, drop, replicate, Float, Result, Ok, Err}
+use Rattle.answers.specs.Answers.{value_or}
+use Rattle.answers.specs.declared.Refusal.{Refusal}
 use Rattle.bits.specs.Bits.{bit_at, read_u32}
 use Rattle.bits.specs.Format.{move_answer}
-use Rattle.bits.specs.declared.BitRead.{BitRead}
-use Rattle.bits.specs.declared.BitMove.{BitMove}
+use Rattle.bits.specs.declared.BitPos.{BitPos}
 use Rattle.tables.specs.Tables.{vq_bits}
 use Rattle.gains.specs.Gains.{gaq_gain_value, gaq_sections, fill_gaqbin, gaqbin_after, read_gaq_gains, gains_after}
-use Rattle.gains.specs.declared.GainsResult.{GainsResult}
 use Rattle.levels.specs.Value.{f0}
 use Rattle.scalars.specs.Scalars.{scalars_read, scalars_after}
 use Rattle.books.specs.Books.{has_book, vq_lookup}
 
 -- ---- steps
--- what a function takes from the bits, and the bit behind it; or the number of its refusal
+-- what a function takes from the bits, and the bit behind it; or its refusal
 pub data Step (A : Type 0) : Type 0 where
   took : A → ℕ → Step A
-  failed : ℕ → Step A
+  failed : Refusal → Step A
 
 abbrev pub next : {A B : Type 0} → Step A → (A → ℕ → Step B) → Step B
 next (took a at) f = f a at
 next (failed k) f = failed k
 
 -- br.read_u32
-abbrev pub number_taken : BitRead → Step ℕ
-number_taken (BitRead.Number v p) = took v (bit_at p)
-number_taken (BitRead.Refused k) = failed k
+abbrev pub number_taken : Result (ℕ × BitPos) Refusal → Step ℕ
+number_taken (Ok r) = took r.0 (bit_at r.1)
+number_taken (Err k) = failed k
 
 -- read_gaq_gains: the codes stand at the front of its output
-abbrev pub codes_taken : List ℕ → GainsResult → Step (List ℕ)
-codes_taken out (GainsResult.Codes n p) = took (take n out) (bit_at p)
-codes_taken out (GainsResult.Refused k) = failed k
+abbrev pub codes_taken : List ℕ → Result (ℕ × BitPos) Refusal → Step (List ℕ)
+codes_taken out (Ok r) = took (take r.0 out) (bit_at r.1)
+codes_taken out (Err k) = failed k
 
 -- read_scalar_aht_mantissas: the values are its output
-abbrev pub values_taken : List Float → BitMove → Step (List Float)
-values_taken out (BitMove.Done p) = took out (bit_at p)
-values_taken out (BitMove.Refused k) = failed k
+abbrev pub values_taken : List Float → Result BitPos Refusal → Step (List Float)
+values_taken out (Ok p) = took out (bit_at p)
+values_taken out (Err k) = failed k
 
 -- the codes that are left behind a bin: one marked 1 has taken the first
 abbrev pub behind_bin : ℤ → List ℕ → List ℕ
@@ -78,14 +77,14 @@ pub record AhtChannel : Type 0 where
   pub values : List Float
 
 abbrev pub channel_with : ℕ → List ℕ → List Float → AhtChannel
-channel_with mode codes values = record { mode = mode; gains = map (λ code. byte_value 0 (gaq_gain_value code mode)) codes; values = values }
+channel_with mode codes values = record { mode = mode; gains = map (λ code. value_or 0 (gaq_gain_value code mode)) codes; values = values }
 
 -- behind the mode, for the hebaps of the bins
 unfoldable pub aht_behind : List ℕ → List ℕ → ℕ → ℕ → Step AhtChannel
 aht_behind s hs mode at =
-    let active = size_value 0 (fill_gaqbin mode hs (length hs)) in
+    let active = value_or 0 (fill_gaqbin mode hs (length hs)) in
     let marks = gaqbin_after mode hs (replicate (length hs) (pos 0)) in
-    next (sections_read s mode (size_value 0 (gaq_sections mode active)) active at) (λ codes at₁.
+    next (sections_read s mode (value_or 0 (gaq_sections mode active)) active at) (λ codes at₁.
     next (bins_read s mode hs marks codes at₁) (λ values at₂.
     took (channel_with mode codes values) at₂))
 
