@@ -7,7 +7,6 @@ use native.Mathlib.Omega.{arith}
 use borrow.Author.Tests.{lt-ltb, le-ltb, ltb-true, ltb-false, ne_eqb, eqb-true, eqb-false}
 use lib.Dec.{eqb, ltb}
 use lib.ListN.{length, get_or, take, drop, length-append}
-use lib.Seq.{take-take}
 use lib.Ieee.{Float}
 use Rattle.std.specs.Prelude.{Option, None, Some, Result, Ok, Err}
 use Rattle.answers.specs.Answers.{answered, answer_number, value_or}
@@ -21,7 +20,8 @@ use Rattle.channel.specs.Bins.{some_over}
 use Rattle.channel.specs.Row.{no_gains, six_of, row_cause}
 use Rattle.channel.proofs.Rows.{row_ok, cause_4_or_none, count_most, row_cause_most}
 use Rattle.planner.specs.Choice.{least_up_to, least_of, plan_mode, plan_gains, plan_payload, payload_of, choice_bits, Choice, gains_over}
-use Rattle.planner.specs.Work.{mode_at, TalliesOf, payload_in, Within}
+use Rattle.planner.specs.Work.{tally_at, TalliesOf, payload_in, payload_at, Within}
+use Rattle.planner.specs.declared.tally.Tally.{Tally}
 use Rattle.planner.specs.Planning.{too_large_at, beyond_at, plan_of, cause_of, cause_up_to, planned, planned_up_to, plan_answered, total_of, gains_of}
 use Rattle.planner.specs.Fit.{plan_fits, plan_cause, plan_cause_up_to}
 use Rattle.planner.specs.declared.Plan.{Plan}
@@ -30,30 +30,23 @@ use Rattle.planner.proofs.Tallies.{payload_is}
 use Rattle.planner.proofs.Chosen.{fits_parts, fits_choice, plan_fits_lem}
 
 -- ---- the plan of what was kept of the modes
-module _ (row : List ℕ) (x : List Float) (start end plain : ℕ) (bits used kept : List ℕ) (few : end ≤ 256) (p : TalliesOf row x start end plain (mode_at bits used kept))
-    (m : ℕ) (em : m ≡ least_up_to (payload_in plain bits used) 3) where
+module _ (row : List ℕ) (x : List Float) (start end plain : ℕ) (ts : List Tally) (p : TalliesOf row x start end plain ts) (m : ℕ) (em : m ≡ least_up_to (payload_at plain ts) 3) where
   pub mode_is : m ≡ plan_mode row x start end
   unfolding plan_mode
-  mode_is = em ∙ least_same (payload_in plain bits used) (least_of row x start end) 3 (payload_is row x start end plain bits used kept p)
+  mode_is = em ∙ least_same (payload_at plain ts) (least_of row x start end) 3 (payload_is row x start end plain ts p)
 
   pub mode_most : m ≤ 3
-  mode_most = let i = (first_least (payload_in plain bits used) 3).inside in omega arith
+  mode_most = let i = (first_least (payload_at plain ts) 3).inside in omega arith
 
-  pub count_few : get_or used m 0 ≤ 256
-  unfolding mode_at
-  count_few = let c = (p m mode_most).count_is in let l = count_most m row start end in omega arith
-
-  pub plan_is : (n b : ℕ) (g : List ℕ) → n ≡ get_or used m 0 → b ≡ payload_in plain bits used m → g ≡ take n (drop (256 * m) kept) ++ drop n no_gains
-      → ◌≡◌ {A = Plan} (record { mode = m; gains = g; count = n; payload = b }) (plan_of row x start end)
-  unfolding plan_of plan_gains plan_payload mode_at
-  plan_is n b g en eb eg =
-      let t = p m mode_most in
-      let f = count_few in
-      let l : n ≡ length (gains_over m row x start end) = en ∙ t.count_is ∙ sym (gains_length m row x start end) in
-      let G : take n (drop (256 * m) kept) ≡ gains_over m row x start end = ap (λ (k : ℕ). take k (drop (256 * m) kept)) en ∙ sym (take-take (get_or used m 0) 256 (drop (256 * m) kept) f) ∙ t.gains_are in
-      let e : g ≡ gains_over m row x start end ++ drop (length (gains_over m row x start end)) no_gains = eg ∙ ap (λ (z : List ℕ). z ++ drop n no_gains) G ∙ ap (λ (k : ℕ). gains_over m row x start end ++ drop k no_gains) l in
-      let q : b ≡ least_of row x start end m = eb ∙ payload_is row x start end plain bits used kept p m mode_most in
-      rw (e, l, q, mode_is)
+  pub plan_is : (t : Tally) (b : ℕ) → t ≡ tally_at ts m → b ≡ payload_in plain m t → ◌≡◌ {A = Plan} (record { mode = m; gains = t.gains; count = t.count; payload = b }) (plan_of row x start end)
+  unfolding plan_of plan_gains plan_payload
+  plan_is t b et eb =
+      let k = p m mode_most in
+      let all = gains_over m row x start end in
+      let n : t.count ≡ length all = ap (λ (u : Tally). u.count) et ∙ k.count_is ∙ sym (gains_length m row x start end) in
+      let g : t.gains ≡ all ++ drop (length all) no_gains = ap (λ (u : Tally). u.gains) et ∙ k.gains_are ∙ ap (λ (i : ℕ). all ++ drop i no_gains) (ap (λ (u : Tally). u.count) (sym et) ∙ n) in
+      let q : b ≡ least_of row x start end m = eb ∙ ap (payload_in plain m) et ∙ payload_is row x start end plain ts p m mode_most in
+      rw (g, n, q, mode_is)
 
 -- ---- cause 5 at a bin
 pub too_large_none : (row : List ℕ) (x : List Float) (k : ℕ) → get_or row k 0 ≡ 0 → false ≡ too_large_at row x k

@@ -1,6 +1,6 @@
 -- What the planner works with on the way to Choice: the costs of a bin at each gain, and what it keeps of each mode.
 -- Nothing here has a meaning of its own. docs/FORMAT.md, Planner.
-use Rattle.std.specs.Prelude.{ℕ, ◌+◌, ◌-◌, ◌*◌, ◌^◌, ◌≤◌, ◌<◌, ◌≡◌, Bool, false, cond, List, eqb, leb, negsuc, length, get_or, take, drop, set, Float}
+use Rattle.std.specs.Prelude.{ℕ, ◌+◌, ◌-◌, ◌*◌, ◌^◌, ◌≤◌, ◌<◌, ◌≡◌, false, cond, List, [], ◌++◌, eqb, leb, negsuc, length, get_or, drop, set, Float}
 use Rattle.std.specs.Float.{nan, fin}
 use Rattle.std.specs.Float.Ieee.{lt, le, neg}
 use Rattle.tables.specs.Tables.{mant_bits, vq_bits}
@@ -9,10 +9,11 @@ use Rattle.levels.specs.Value.{f0}
 use Rattle.levels.specs.Codes.{code_bits}
 use Rattle.quantiser.specs.Quantise.{picked, codes_bits}
 use Rattle.channel.specs.Bins.{sum_over}
-use Rattle.channel.specs.Row.{active_count, RowOk}
+use Rattle.channel.specs.Row.{no_gains, active_count, RowOk}
 use Rattle.planner.specs.Choice.{cheapest, least_at, gains_over}
 use Rattle.planner.specs.declared.Costs.{Costs}
 use Rattle.planner.specs.declared.Limits.{Limits}
+use Rattle.planner.specs.declared.tally.Tally.{Tally}
 
 -- ---- one component
 -- the size of x; -0 is left as it is
@@ -58,15 +59,8 @@ unfoldable pub plain_bits : ℕ → ℕ
 plain_bits h = cond (leb h 7) (vq_bits h) (6 * mant_bits h)
 
 -- ---- one mode
--- the bits of the bins of hebap 8 to 16, how many are active in the mode, and 256 places of gains, the first ones used
-pub record Tally : Type 0 where
-  pub bits : ℕ
-  pub count : ℕ
-  pub gains : List ℕ
-
--- where they stand
-unfoldable pub mode_at : List ℕ → List ℕ → List ℕ → ℕ → Tally
-mode_at bits used kept mode = record { bits = get_or bits mode 0; count = get_or used mode 0; gains = take 256 (drop (256 * mode) kept) }
+unfoldable pub no_tally : Tally
+no_tally = record { bits = 0; count = 0; gains = no_gains }
 
 -- with one more bin of the hebap h
 unfoldable pub with_bin : ℕ → ℕ → Costs → Tally → Tally
@@ -76,42 +70,38 @@ with_bin mode h c t = record {
   gains = cond (active mode h) (set t.gains t.count (gain_in mode c)) t.gains;
 }
 
--- ---- all modes
--- the modes that p names have one bin more than before
-abbrev pub OneBinMore : (ℕ → Bool) → ℕ → Costs → (ℕ → Tally) → (ℕ → Tally) → Type 0
-OneBinMore p h c old new = (m : ℕ) → m ≤ 3 → new m ≡ cond (p m) (with_bin m h c (old m)) (old m)
-
--- room for four modes
-pub record FourModes (bits used kept : List ℕ) : Type 0 where
-  pub for_bits : length bits ≡ 4
-  pub for_used : length used ≡ 4
-  pub for_gains : length kept ≡ 1024
-
 -- so small that sums of them fit, and room for a gain more
 pub record Small (t : Tally) : Type 0 where
   pub few_bits : t.bits ≤ 65536
   pub few_gains : t.count < 256
 
-abbrev pub AllSmall : (ℕ → Tally) → Type 0
-AllSmall t = (m : ℕ) → m ≤ 3 → Small (t m)
-
 -- the bins start to end - 1, where plain is the bits of those that are active in no mode
 pub record TallyOf (row : List ℕ) (x : List Float) (start end plain mode : ℕ) (t : Tally) : Type 0 where
   pub bits_are : plain + t.bits ≡ sum_over (least_at mode row x) start end
   pub count_is : t.count ≡ active_count mode row start end
-  pub gains_are : take t.count t.gains ≡ gains_over mode row x start end
-  pub places : length t.gains ≡ 256
+  pub gains_are : t.gains ≡ gains_over mode row x start end ++ drop t.count no_gains
 
-abbrev pub TalliesOf : List ℕ → List Float → ℕ → ℕ → ℕ → (ℕ → Tally) → Type 0
-TalliesOf row x start end plain t = (m : ℕ) → m ≤ 3 → TallyOf row x start end plain m (t m)
+-- the payload
+unfoldable pub payload_in : ℕ → ℕ → Tally → ℕ
+payload_in plain mode t = plain + t.bits + gain_word_bits mode t.count
 
--- the payload of a mode
-unfoldable pub payload_in : ℕ → List ℕ → List ℕ → ℕ → ℕ
-payload_in plain bits used mode = plain + get_or bits mode 0 + gain_word_bits mode (get_or used mode 0)
+-- ---- all modes
+-- that of the mode m, of four
+abbrev pub tally_at : List Tally → ℕ → Tally
+tally_at ts m = get_or ts m (record { bits = 0; count = 0; gains = [] })
+
+abbrev pub AllSmall : List Tally → Type 0
+AllSmall ts = (m : ℕ) → m ≤ 3 → Small (tally_at ts m)
+
+abbrev pub TalliesOf : List ℕ → List Float → ℕ → ℕ → ℕ → List Tally → Type 0
+TalliesOf row x start end plain ts = (m : ℕ) → m ≤ 3 → TallyOf row x start end plain m (tally_at ts m)
+
+abbrev pub payload_at : ℕ → List Tally → ℕ → ℕ
+payload_at plain ts mode = payload_in plain mode (tally_at ts mode)
 
 -- so small that the sum fits
-abbrev pub AllFew : ℕ → List ℕ → List ℕ → Type 0
-AllFew plain bits used = (m : ℕ) → m ≤ 3 → (plain + get_or bits m 0 ≤ 65536) × (get_or used m 0 ≤ 256)
+abbrev pub AllFew : ℕ → List Tally → Type 0
+AllFew plain ts = (m : ℕ) → m ≤ 3 → (plain + (tally_at ts m).bits ≤ 65536) × ((tally_at ts m).count ≤ 256)
 
 -- ---- what holds where none of causes 1 to 4 does
 pub record Within (row : List ℕ) (start end : ℕ) (x : List Float) : Type 0 where

@@ -17,6 +17,8 @@ mod fit;
 mod one_bin;
 mod tally;
 
+use tally::Tally;
+
 // The gains are Gk in bin order, count of them, then zeros. The total is 2 plus the payload.
 #[derive(Clone, Copy)]
 pub struct Plan {
@@ -45,19 +47,15 @@ fn plan_bins(row: &[u8], start: usize, end: usize, x: &[f32]) -> Plan
     requires { Within row.now start end x.now }
     ensures { result ≡ plan_of row.now x.now start end }
 {
-    let mut bits = tally::no_counts();
-    let mut used = tally::no_counts();
-    let mut kept = tally::no_places();
-    let plain = tally::tally_bins(row, start, end, x, &mut bits, &mut used, &mut kept);
-    let mode = tally::best_mode(plain, &bits, &used);
-    let payload = tally::payload_in(plain, &bits, &used, mode);
-    let m = mode as usize;
-    let count = used[m] as usize;
-    let gains = tally::gains_from(&kept, 256 * m, count);
+    let mut tallies = [Tally::new(); 4];
+    let plain = tally::tally_bins(row, start, end, x, &mut tallies);
+    let mode = tally::best_mode(plain, &tallies);
+    let best = &tallies[mode as usize];
+    let payload = best.payload(plain, mode);
     Plan {
         mode,
-        gains,
-        count,
+        gains: best.gains,
+        count: best.count as usize,
         payload,
     }
 }

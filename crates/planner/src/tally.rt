@@ -1,61 +1,74 @@
 // What is kept of each mode while the bins are gone through, and the mode of least payload.
-ghost use Rattle.std.specs.Prelude.{◌≡◌, true, ◌++◌, ◌+◌, ◌≤◌, eqb, length, take, drop, replicate};
-ghost use Rattle.channel.specs.Row.{no_gains};
+ghost use Rattle.std.specs.Prelude.{◌≡◌, ℕ, ◌+◌, ◌<◌, ◌≤◌, length, replicate};
 ghost use Rattle.planner.specs.Choice.{least_up_to};
-ghost use Rattle.planner.specs.Work.{mode_at, OneBinMore, FourModes, Small, AllSmall, TalliesOf, AllFew, payload_in, Within};
+ghost use Rattle.planner.specs.Work.{no_tally, tally_at, with_bin, Small, AllSmall, TalliesOf, AllFew, payload_in, payload_at, Within};
 
 use super::{Costs, one_bin};
 
-// One bin in one mode: its bits at the cheapest gain, and where it is active that gain behind the gains before it.
-#[tactic(auto, using(crate::proofs::Steps::cost_small, crate::proofs::Tallies::count_one, crate::proofs::Tallies::count_none), unfolding(crate::specs::Work::mode_at))]
-fn tally_mode(mode: u8, hebap: u8, c: Costs, bits: &mut [u32], used: &mut [u32], kept: &mut [u8])
-    requires mode_bound { (mode ≤ 3) × FourModes bits.old used.old kept.old }
-    requires small { Small (mode_at bits.old used.old kept.old mode) }
-    requires one_bound { (c.one ≤ 256) × (c.two ≤ 256) × (c.four ≤ 256) }
-    ensures one_bin_more { OneBinMore (λ i. eqb i mode) hebap c
-        (mode_at bits.old used.old kept.old) (mode_at bits.new used.new kept.new) }
-    ensures four_modes { FourModes bits.new used.new kept.new }
-{
-    let m = mode as usize;
-    if gains::is_active(mode, hebap) {
-        let n = used[m];
-        let gain = one_bin::best_gain(mode, c);
-        kept[256 * m + n as usize] = gain;
-        used[m] = n + 1;
-        bits[m] = bits[m] + one_bin::cost_at(c, gain);
-    } else {
-        bits[m] = bits[m] + c.one;
+// One mode: the bits of the bins of hebap 8 to 16, how many of them are active, and their gains, then zeros.
+#[derive(Clone, Copy)]
+pub struct Tally {
+    pub bits: u32,
+    pub count: u32,
+    pub gains: [u8; 256],
+}
+
+impl Tally {
+    #[tactic(auto, unfolding(crate::specs::Work::no_tally))]
+    pub fn new() -> Tally
+        ensures { result ≡ no_tally }
+    {
+        Tally {
+            bits: 0,
+            count: 0,
+            gains: channel::no_gains(),
+        }
+    }
+
+    // One bin more: its bits at the cheapest gain, and where it is active that gain behind the gains before it.
+    #[tactic(auto, using(crate::proofs::Steps::cost_small))]
+    fn add(&mut self, mode: u8, hebap: u8, c: Costs)
+        requires small { Small self.old }
+        requires one_bound { (c.one ≤ 256) × (c.two ≤ 256) × (c.four ≤ 256) }
+        ensures { self.new ≡ with_bin mode hebap c self.old }
+    {
+        if gains::is_active(mode, hebap) {
+            let gain = one_bin::best_gain(mode, c);
+            self.gains[self.count as usize] = gain;
+            self.count += 1;
+            self.bits += one_bin::cost_at(c, gain);
+        } else {
+            self.bits += c.one;
+        }
+    }
+
+    // What the mode costs; plain is the bits of the bins that are active in no mode.
+    pub fn payload(&self, plain: u32, mode: u8) -> u32
+        requires { (plain + self.now.bits ≤ 65536) × (self.now.count ≤ 256) }
+        ensures { result ≡ payload_in plain mode self.now }
+    {
+        plain + self.bits + gains::gain_word_bits(mode, self.count)
     }
 }
 
 // One bin in every mode.
-fn tally_bin(hebap: u8, c: Costs, bits: &mut [u32], used: &mut [u32], kept: &mut [u8])
-    requires four_modes { FourModes bits.old used.old kept.old }
-    requires all_small { AllSmall (mode_at bits.old used.old kept.old) }
+fn tally_bin(hebap: u8, c: Costs, tallies: &mut [Tally])
+    requires four { length tallies.old ≡ 4 }
+    requires all_small { AllSmall tallies.old }
     requires one_bound { (c.one ≤ 256) × (c.two ≤ 256) × (c.four ≤ 256) }
-    ensures one_bin_more { OneBinMore (λ i. true) hebap c
-        (mode_at bits.old used.old kept.old) (mode_at bits.new used.new kept.new) }
-    ensures four_modes_2 { FourModes bits.new used.new kept.new }
+    ensures { (m : ℕ) → m ≤ 3 → tally_at tallies.new m ≡ with_bin m hebap c (tally_at tallies.old m) }
 {
     for mode in 0..4 {
-        tally_mode(mode, hebap, c, &mut *bits, &mut *used, &mut *kept);
+        let tally = &mut tallies[mode as usize];
+        tally.add(mode, hebap, c);
     }
 }
 
 // All bins; returns the bits of those that are active in no mode. The costs of a bin are counted once for all modes.
-pub fn tally_bins(
-    row: &[u8],
-    start: usize,
-    end: usize,
-    x: &[f32],
-    bits: &mut [u32],
-    used: &mut [u32],
-    kept: &mut [u8],
-) -> u32
+pub fn tally_bins(row: &[u8], start: usize, end: usize, x: &[f32], tallies: &mut [Tally]) -> u32
     requires within { Within row.now start end x.now }
-    requires four_modes { FourModes bits.old used.old kept.old }
-    requires tallies_of { TalliesOf row.now x.now start start 0 (mode_at bits.old used.old kept.old) }
-    ensures { TalliesOf row.now x.now start end result (mode_at bits.new used.new kept.new) }
+    requires tallies_new { tallies.old ≡ replicate 4 no_tally }
+    ensures { TalliesOf row.now x.now start end result tallies.new }
 {
     let mut plain: u32 = 0;
     for bin in start..end {
@@ -63,7 +76,7 @@ pub fn tally_bins(
         match hebap {
             8..=16 => {
                 let c = one_bin::gain_costs(hebap, x, 6 * bin);
-                tally_bin(hebap, c, &mut *bits, &mut *used, &mut *kept);
+                tally_bin(hebap, c, &mut *tallies);
             }
             _ => {
                 plain += one_bin::plain_bits(hebap);
@@ -73,51 +86,19 @@ pub fn tally_bins(
     plain
 }
 
-pub fn payload_in(plain: u32, bits: &[u32], used: &[u32], mode: u8) -> u32
-    requires mode_bound { (mode ≤ 3) × (length bits.now ≡ 4) × (length used.now ≡ 4) }
-    requires all_few { AllFew plain bits.now used.now }
-    ensures { result ≡ payload_in plain bits.now used.now mode }
-{
-    let m = mode as usize;
-    plain + bits[m] + gains::gain_word_bits(mode, used[m])
-}
-
 // The mode of least payload, the lowest of equals.
-pub fn best_mode(plain: u32, bits: &[u32], used: &[u32]) -> u8
-    requires lengths { (length bits.now ≡ 4) × (length used.now ≡ 4) }
-    requires all_few { AllFew plain bits.now used.now }
-    ensures { result ≡ least_up_to (payload_in plain bits.now used.now) 3 }
+pub fn best_mode(plain: u32, tallies: &[Tally]) -> u8
+    requires four { length tallies.now ≡ 4 }
+    requires all_few { AllFew plain tallies.now }
+    ensures { result ≡ least_up_to (payload_at plain tallies.now) 3 }
 {
     let mut best: u8 = 0;
     for mode in 1..4 {
-        let next = payload_in(plain, bits, used, mode);
-        let least = payload_in(plain, bits, used, best);
+        let next = tallies[mode as usize].payload(plain, mode);
+        let least = tallies[best as usize].payload(plain, best);
         if next < least {
             best = mode;
         }
     }
     best
-}
-
-// The first count gains of those from the place a on, and zeros.
-pub fn gains_from(kept: &[u8], a: usize, count: usize) -> [u8; 256]
-    requires { (count ≤ 256) × (a + count ≤ length kept.now) × (a ≤ 1024) }
-    ensures { result ≡ take count (drop a kept.now) ++ drop count no_gains }
-{
-    let mut gains = channel::no_gains();
-    gains[..count].copy_from_slice(&kept[a..a + count]);
-    gains
-}
-
-// Four zeros, and room for the gains of four modes.
-pub fn no_counts() -> [u32; 4]
-    ensures { result ≡ replicate 4 0 }
-{
-    [0u32; 4]
-}
-
-pub fn no_places() -> [u8; 1024]
-    ensures { result ≡ replicate 1024 0 }
-{
-    [0u8; 1024]
 }

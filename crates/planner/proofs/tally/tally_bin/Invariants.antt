@@ -1,7 +1,10 @@
 -- `planner::tally::tally_bin` meets its contract. Assumes nothing.
+use Prim.Native.Nat.{ℕ, ◌≤◌}
+use mathlib.Core.Path.{◌≡◌}
+use mathlib.Core.Bool.{cond}
 use lib.Dec.{ltb}
-use Rattle.planner.specs.Work.{mode_at, OneBinMore, FourModes}
+use Rattle.planner.specs.Work.{tally_at, with_bin}
 use Rattle.planner.proofs.tally.tally_bin.Given as goal
 
 abbrev pub invariant-loop-mode : goal.invariant-loop-mode
-invariant-loop-mode l = FourModes l.bits l.used l.kept × OneBinMore (λ i. ltb i l.mode) l.hebap l.c (mode_at l.initial.bits l.initial.used l.initial.kept) (mode_at l.bits l.used l.kept)
+invariant-loop-mode l = (m : ℕ) → m ≤ 3 → tally_at l.tallies m ≡ cond (ltb m l.mode) (with_bin m l.hebap l.c (tally_at l.initial.tallies m)) (tally_at l.initial.tallies m)

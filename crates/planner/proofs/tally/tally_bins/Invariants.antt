@@ -1,6 +1,6 @@
 -- `planner::tally::tally_bins` meets its contract. Assumes nothing.
-use Rattle.planner.specs.Work.{mode_at, FourModes, TalliesOf}
+use Rattle.planner.specs.Work.{TalliesOf}
 use Rattle.planner.proofs.tally.tally_bins.Given as goal
 
 abbrev pub invariant-loop-bin : goal.invariant-loop-bin
-invariant-loop-bin l = FourModes l.bits l.used l.kept × TalliesOf l.row l.x l.start l.bin l.plain (mode_at l.bits l.used l.kept)
+invariant-loop-bin l = TalliesOf l.row l.x l.start l.bin l.plain l.tallies
