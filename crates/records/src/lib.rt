@@ -6,10 +6,11 @@
 ghost use Rattle.std.specs.Prelude.{◌≡◌, ◌<◌, take, drop};
 ghost use Rattle.std.specs.Bool.{OnTrue};
 ghost use Rattle.std.specs.Io.KnownBytes.{Consumes};
-ghost use Rattle.levels.specs.Codes.{signed};
 ghost use Rattle.records.specs.Records.{at8, at16, at32, at64, float_of, position_of, same_value, same_place, same_float, new_count, one_more, count_after};
 
 use bits::BitPos;
+use std::convert::TryFrom;
+use std::fmt::{self, Display, Formatter, Write};
 use std::io::Read;
 
 // The places of a record, whatever its function.
@@ -25,7 +26,88 @@ pub const NEXT_BYTE: usize = 112;
 
 pub const NEXT_BIT: usize = 120;
 
-// A function, how many answers of it were replayed, and how many of them were wrong.
+// The function that a record calls.
+#[derive(Clone, Copy)]
+pub enum Function {
+    ReadU32,
+    WriteU32,
+    HebapFromAddress,
+    EndbapForGaqmod,
+    FillGaqbin,
+    GaqSections,
+    GaqGainValue,
+    ReadGaqGains,
+    ReadScalarAhtMantissas,
+    VqLookup,
+    VqSearch,
+    QuantiseScalar,
+    QuantiseBin,
+    PlanAhtChannel,
+    WriteAhtChannel,
+    ReadAhtChannel,
+    ReadThree,
+    PrintPages,
+}
+
+// A number that is no function's.
+#[derive(Clone, Copy)]
+pub struct NoFunction;
+
+// By its number in a record.
+impl TryFrom<u8> for Function {
+    type Error = NoFunction;
+
+    fn try_from(number: u8) -> Result<Function, NoFunction> {
+        Ok(match number {
+            1 => Function::ReadU32,
+            2 => Function::WriteU32,
+            3 => Function::HebapFromAddress,
+            4 => Function::EndbapForGaqmod,
+            5 => Function::FillGaqbin,
+            6 => Function::GaqSections,
+            7 => Function::GaqGainValue,
+            8 => Function::ReadGaqGains,
+            9 => Function::ReadScalarAhtMantissas,
+            10 => Function::VqLookup,
+            11 => Function::VqSearch,
+            12 => Function::QuantiseScalar,
+            13 => Function::QuantiseBin,
+            14 => Function::PlanAhtChannel,
+            15 => Function::WriteAhtChannel,
+            16 => Function::ReadAhtChannel,
+            17 => Function::ReadThree,
+            18 => Function::PrintPages,
+            _ => return Err(NoFunction),
+        })
+    }
+}
+
+impl Display for Function {
+    fn fmt<W: Write>(&self, f: &mut Formatter<W>) -> fmt::Result {
+        f.write_str(match self {
+            Function::ReadU32 => "read_u32",
+            Function::WriteU32 => "write_u32",
+            Function::HebapFromAddress => "hebap_from_address",
+            Function::EndbapForGaqmod => "endbap_for_gaqmod",
+            Function::FillGaqbin => "fill_gaqbin",
+            Function::GaqSections => "gaq_sections",
+            Function::GaqGainValue => "gaq_gain_value",
+            Function::ReadGaqGains => "read_gaq_gains",
+            Function::ReadScalarAhtMantissas => "read_scalar_aht_mantissas",
+            Function::VqLookup => "vq_lookup",
+            Function::VqSearch => "vq_search",
+            Function::QuantiseScalar => "quantise_scalar",
+            Function::QuantiseBin => "quantise_bin",
+            Function::PlanAhtChannel => "plan_aht_channel",
+            Function::WriteAhtChannel => "write_aht_channel",
+            Function::ReadAhtChannel => "read_aht_channel",
+            Function::ReadThree => "read_three",
+            Function::PrintPages => "print_pages",
+        })
+    }
+}
+
+// A function's number, how many answers of it were replayed, and how many of them were wrong.
 #[derive(Clone, Copy)]
 pub struct Count {
     pub function: u8,
@@ -33,37 +115,32 @@ pub struct Count {
     pub wrong: u64,
 }
 
-// A byte as a number of 64 bits.
-pub fn wide(b: u8) -> u64
-    ensures { (result ≡ b) × (result < 256) }
-{
-    b as u64
-}
-
 // The byte at a place, and the numbers of 16, 32 and 64 bits there, the least significant byte first.
 pub fn byte(r: &[u8], at: usize) -> u8
     ensures { result ≡ at8 r.now at }
 {
-    if at < r.len() {
-        return r[at];
-    }
-    0
+    r.get(at).copied().unwrap_or(0)
 }
 
 #[tactic(auto, unfolding(crate::specs::Records::at16))]
-pub fn number16(r: &[u8], at: usize) -> u64
+pub fn number16(r: &[u8], at: usize) -> u16
     requires { at < 0x1_0000 }
-    ensures { (result ≡ at16 r.now at) × (result < 0x1_0000) }
+    ensures { result ≡ at16 r.now at }
 {
-    wide(byte(r, at)) + 256 * wide(byte(r, at + 1))
+    u16::from_le_bytes([byte(r, at), byte(r, at + 1)])
 }
 
-#[tactic(auto, unfolding(crate::specs::Records::at32))]
-pub fn number32(r: &[u8], at: usize) -> u64
+#[tactic(auto, unfolding(crate::specs::Records::at16, crate::specs::Records::at32))]
+pub fn number32(r: &[u8], at: usize) -> u32
     requires { at < 0x8000 }
-    ensures { (result ≡ at32 r.now at) × (result < 0x1_0000_0000) }
+    ensures { result ≡ at32 r.now at }
 {
-    number16(r, at) + 0x1_0000 * number16(r, at + 2)
+    u32::from_le_bytes([
+        byte(r, at),
+        byte(r, at + 1),
+        byte(r, at + 2),
+        byte(r, at + 3),
+    ])
 }
 
 #[tactic(auto, unfolding(crate::specs::Records::at64))]
@@ -71,7 +148,7 @@ pub fn number64(r: &[u8], at: usize) -> u64
     requires { at < 0x4000 }
     ensures { result ≡ at64 r.now at }
 {
-    number32(r, at) + 0x1_0000_0000 * number32(r, at + 4)
+    u64::from(number32(r, at)) + 0x1_0000_0000 * u64::from(number32(r, at + 4))
 }
 
 // The bytes from a place on, n of them as far as they are there.
@@ -95,40 +172,7 @@ pub fn position(r: &[u8]) -> BitPos
 {
     BitPos {
         byte: number64(r, BYTE) as usize,
-        bit: number32(r, BIT) as u32,
-    }
-}
-
-// The number that the bits of v are in two's complement.
-pub fn signed8(v: u8) -> i8
-    ensures { result ≡ signed 8 v }
-{
-    if v < 0x80 {
-        v as i8
-    } else {
-        !((0xff - v) as i8)
-    }
-}
-
-pub fn signed16(v: u64) -> i16
-    requires { v < 0x1_0000 }
-    ensures { result ≡ signed 16 v }
-{
-    if v < 0x8000 {
-        v as i16
-    } else {
-        !((0xffff - v) as i16)
-    }
-}
-
-pub fn signed32(v: u64) -> i32
-    requires { v < 0x1_0000_0000 }
-    ensures { result ≡ signed 32 v }
-{
-    if v < 0x8000_0000 {
-        v as i32
-    } else {
-        !((0xffff_ffff - v) as i32)
+        bit: number32(r, BIT),
     }
 }
 
@@ -143,18 +187,16 @@ pub fn same_value(r: &[u8], refusal: u8, value: u64) -> bool
 pub fn same_place(r: &[u8], p: BitPos) -> bool
     ensures { result ≡ same_place r.now p }
 {
-    number64(r, NEXT_BYTE) == p.byte as u64 && number32(r, NEXT_BIT) as u32 == p.bit
+    number64(r, NEXT_BYTE) == p.byte as u64 && number32(r, NEXT_BIT) == p.bit
 }
 
 // Whether y has the bits that the record has at a place. A NaN has no bits of its own, and no answer is one.
+#[tactic(auto, unfolding(crate::specs::Records::same_float))]
 pub fn same_float(r: &[u8], at: usize, y: f32) -> bool
     requires { at < 0x8000 }
     ensures { result ≡ same_float r.now at y }
 {
-    if y != y {
-        return false;
-    }
-    f32::to_bits(y) == number32(r, at) as u32
+    !y.is_nan() && y.to_bits() == number32(r, at)
 }
 
 // The f32 of these bits; there is one NaN here, whatever its bits.
@@ -162,8 +204,7 @@ fn float_of(bits: u32) -> f32
     ensures { result ≡ float_of bits }
 {
     if 0x7f80_0000 < bits % 0x8000_0000 {
-        let zero = 0.0f32;
-        return zero / zero;
+        return f32::NAN;
     }
     f32::from_bits(bits)
 }
@@ -173,7 +214,7 @@ pub fn number(r: &[u8], at: usize) -> f32
     requires { at < 0x8000 }
     ensures { result ≡ float_of (at32 r.now at) }
 {
-    float_of(number32(r, at) as u32)
+    float_of(number32(r, at))
 }
 
 // The count with one more answer.
@@ -187,39 +228,16 @@ fn one_more(c: Count, ok: bool) -> Count
     }
 }
 
-// Prints a count behind its name.
-fn print_count(rt: &impl Print, name: &str, c: Count) {
-    let _ = println!(rt; "{name}: {} answers, {} wrong", c.answers, c.wrong);
-}
-
 // Prints a count behind the name of its function. No contract can say what is written.
-pub fn print(rt: &impl Print, c: Count) {
-    let function = c.function;
-    match function {
-        1 => print_count(rt, "read_u32", c),
-        2 => print_count(rt, "write_u32", c),
-        3 => print_count(rt, "hebap_from_address", c),
-        4 => print_count(rt, "endbap_for_gaqmod", c),
-        5 => print_count(rt, "fill_gaqbin", c),
-        6 => print_count(rt, "gaq_sections", c),
-        7 => print_count(rt, "gaq_gain_value", c),
-        8 => print_count(rt, "read_gaq_gains", c),
-        9 => print_count(rt, "read_scalar_aht_mantissas", c),
-        10 => print_count(rt, "vq_lookup", c),
-        11 => print_count(rt, "vq_search", c),
-        12 => print_count(rt, "quantise_scalar", c),
-        13 => print_count(rt, "quantise_bin", c),
-        14 => print_count(rt, "plan_aht_channel", c),
-        15 => print_count(rt, "write_aht_channel", c),
-        16 => print_count(rt, "read_aht_channel", c),
-        17 => print_count(rt, "read_three", c),
-        18 => print_count(rt, "print_pages", c),
-        _ => print_count(rt, "no function", c),
-    }
+fn print(rt: &impl Print, c: Count) {
+    let _ = match Function::try_from(c.function) {
+        Ok(function) => println!(rt; "{function}: {} answers, {} wrong", c.answers, c.wrong),
+        Err(NoFunction) => println!(rt; "no function: {} answers, {} wrong", c.answers, c.wrong),
+    };
 }
 
 // A function's count before its first answer.
-pub fn new_count(function: u8) -> Count
+fn new_count(function: u8) -> Count
     ensures { result ≡ new_count function }
 {
     Count {
@@ -231,7 +249,7 @@ pub fn new_count(function: u8) -> Count
 
 // The count after the answer to a record. The records stand by function: where the next one begins, the count of the
 // last one is printed.
-pub fn counted(rt: &impl Print, c: Count, r: &[u8], ok: bool) -> Count
+fn counted(rt: &impl Print, c: Count, r: &[u8], ok: bool) -> Count
     ensures { result ≡ count_after c (at8 r.now 0) ok }
 {
     let function = byte(r, 0);
@@ -245,8 +263,25 @@ pub fn counted(rt: &impl Print, c: Count, r: &[u8], ok: bool) -> Count
 }
 
 // Reads the next record; false where the input has no whole one any more.
-pub fn next<R: Read>(reader: &mut R, r: &mut [u8]) -> bool
+fn next<R: Read>(reader: &mut R, r: &mut [u8]) -> bool
     ensures { OnTrue result (Consumes (R.remaining reader.old) (R.remaining reader.new) r.new) }
 {
     reader.read_exact(r).is_ok()
+}
+
+// Replays the records on standard input, each as long as the one that is lent, and prints the counts of each
+// function's answers: `right` says whether the call of a record gives the record's answer. A proved loop has to end, so
+// it counts its turns, up to a number that no input uses up.
+pub fn replay<F: Fn(&[u8]) -> bool>(rt: &HostRuntime, record: &mut [u8], right: F)
+    requires { F.IsAlwaysCallable right }
+{
+    let mut reader = rt.stdin();
+    let mut c = new_count(0);
+    for _ in 0..u64::MAX {
+        if !next(&mut reader, &mut *record) {
+            break;
+        }
+        c = counted(rt, c, &*record, right(&*record));
+    }
+    print(rt, c);
 }

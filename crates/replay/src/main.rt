@@ -10,8 +10,8 @@ use bits::{BitMove, BitRead};
 use gains::GainsResult;
 use levels::Code;
 use quantiser::{PickResult, QuantisedBin};
-use records::Count;
-use std::io::Read;
+use records::Function;
+use std::convert::TryFrom;
 
 type Record = [u8; 256];
 
@@ -44,7 +44,7 @@ const VECTORS: usize = 128;
 fn size(b: u8) -> usize
     ensures { result ≤ 24 }
 {
-    if b < 24 { b as usize } else { 24 }
+    usize::from(b).min(24)
 }
 
 // The input of the call.
@@ -59,12 +59,12 @@ fn same_out(r: &Record, out: &Record, n: usize) -> bool {
 
 // Whether the six have the bits of the output after the call.
 fn same_floats(r: &Record, y: &[f32; 6]) -> bool {
-    records::same_float(r, OUT_AFTER, y[0])
-        & records::same_float(r, OUT_AFTER + 4, y[1])
-        & records::same_float(r, OUT_AFTER + 8, y[2])
-        & records::same_float(r, OUT_AFTER + 12, y[3])
-        & records::same_float(r, OUT_AFTER + 16, y[4])
-        & records::same_float(r, OUT_AFTER + 20, y[5])
+    for i in 0..6 {
+        if !records::same_float(r, OUT_AFTER + 4 * i, y[i]) {
+            return false;
+        }
+    }
+    true
 }
 
 // Whether the answer of a call that moves a position is the record's.
@@ -77,12 +77,13 @@ fn same_move(r: &Record, answer: BitMove) -> bool {
 
 fn read(r: &Record) -> BitRead {
     let p = records::position(r);
-    p.read_u32(input(r), records::number32(r, ARG32) as u32)
+    p.read_u32(input(r), records::number32(r, ARG32))
 }
 
 fn replay_read(r: &Record, answer: BitRead) -> bool {
     match answer {
-        BitRead::Number(v, q) => records::same_value(r, 0, v as u64) && records::same_place(r, q),
+        BitRead::Number(v, q) => records::same_value(r, 0, u64::from(v))
+            && records::same_place(r, q),
         BitRead::Refused(k) => records::same_value(r, k, 0),
     }
 }
@@ -92,16 +93,16 @@ fn three(r: &Record) -> ThreeResult {
     bitreader::read_three(
         input(r),
         records::position(r),
-        records::wide(r[A]) as u32,
-        records::wide(r[B]) as u32,
-        records::wide(r[C]) as u32,
+        u32::from(r[A]),
+        u32::from(r[B]),
+        u32::from(r[C]),
     )
 }
 
 fn same_three(r: &Record, x: u32, y: u32, z: u32) -> bool {
-    records::number32(r, OUT_AFTER) as u32 == x
-        && records::number32(r, OUT_AFTER + 4) as u32 == y
-        && records::number32(r, OUT_AFTER + 8) as u32 == z
+    records::number32(r, OUT_AFTER) == x
+        && records::number32(r, OUT_AFTER + 4) == y
+        && records::number32(r, OUT_AFTER + 8) == z
 }
 
 fn replay_three(r: &Record, answer: ThreeResult) -> bool {
@@ -119,21 +120,21 @@ fn replay_write(r: Record) -> bool {
     let n = size(r[OUT_LEN]);
     let end = OUT + n;
     let p = records::position(&r);
-    let v = records::number32(&r, ARG32) as u32;
-    let answer = p.write_u32(&mut out[OUT..end], v, r[A] as u32);
+    let v = records::number32(&r, ARG32);
+    let answer = p.write_u32(&mut out[OUT..end], v, u32::from(r[A]));
     same_out(&r, &out, n) && same_move(&r, answer)
 }
 
 fn hebap(r: &Record) -> ByteResult {
     tables::hebap_from_address(
-        records::signed16(records::number16(r, A)),
-        records::signed32(records::number32(r, ARG32)),
+        records::number16(r, A).cast_signed(),
+        records::number32(r, ARG32).cast_signed(),
     )
 }
 
 fn replay_byte(r: &Record, answer: ByteResult) -> bool {
     match answer {
-        ByteResult::Value(v) => records::same_value(r, 0, v as u64),
+        ByteResult::Value(v) => records::same_value(r, 0, u64::from(v)),
         ByteResult::Refused(k) => records::same_value(r, k, 0),
     }
 }
@@ -149,7 +150,7 @@ fn replay_count(r: &Record, answer: SizeResult) -> bool {
 fn marks_of(r: &Record) -> [i8; 24] {
     let mut marks = [0i8; 24];
     for i in 0..24 {
-        marks[i] = records::signed8(r[OUT + i]);
+        marks[i] = r[OUT + i].cast_signed();
     }
     marks
 }
@@ -158,7 +159,7 @@ fn same_marks(r: &Record, n: usize, marks: &[i8; 24]) -> bool
     requires { n ≤ 24 }
 {
     for i in 0..n {
-        if marks[i] != records::signed8(r[OUT_AFTER + i]) {
+        if marks[i] != r[OUT_AFTER + i].cast_signed() {
             return false;
         }
     }
@@ -199,7 +200,7 @@ fn replay_scalars(r: &Record) -> bool {
         p,
         r[A],
         r[B],
-        records::signed8(r[C]),
+        r[C].cast_signed(),
         r[D],
         &mut values,
     );
@@ -207,14 +208,11 @@ fn replay_scalars(r: &Record) -> bool {
 }
 
 fn six(r: &Record) -> [f32; 6] {
-    [
-        records::number(r, VECTORS),
-        records::number(r, VECTORS + 4),
-        records::number(r, VECTORS + 8),
-        records::number(r, VECTORS + 12),
-        records::number(r, VECTORS + 16),
-        records::number(r, VECTORS + 20),
-    ]
+    let mut x = [0.0f32; 6];
+    for i in 0..6 {
+        x[i] = records::number(r, VECTORS + 4 * i);
+    }
+    x
 }
 
 fn replay_lookup(r: &Record, answer: [f32; 6]) -> bool {
@@ -254,53 +252,46 @@ fn replay_bin(r: &Record, answer: QuantisedBin) -> bool {
 
 // Whether the call of the record gives the record's answer.
 fn right(r: &Record) -> bool {
-    let function = r[0];
+    let Ok(function) = Function::try_from(r[0]) else {
+        return false;
+    };
     match function {
-        1 => replay_read(r, read(r)),
-        2 => replay_write(*r),
-        3 => replay_byte(r, hebap(r)),
-        4 => replay_byte(r, gains::endbap_for_gaqmod(r[A])),
-        5 => replay_fill(r, marks_of(r)),
-        6 => replay_count(
+        Function::ReadU32 => replay_read(r, read(r)),
+        Function::WriteU32 => replay_write(*r),
+        Function::HebapFromAddress => replay_byte(r, hebap(r)),
+        Function::EndbapForGaqmod => replay_byte(r, gains::endbap_for_gaqmod(r[A])),
+        Function::FillGaqbin => replay_fill(r, marks_of(r)),
+        Function::GaqSections => replay_count(
             r,
             gains::gaq_sections(r[A], records::number64(r, ARG64) as usize),
         ),
-        7 => replay_byte(r, gains::gaq_gain_value(r[A], r[B])),
-        8 => replay_gains(*r),
-        9 => replay_scalars(r),
-        10 => replay_lookup(
+        Function::GaqGainValue => replay_byte(r, gains::gaq_gain_value(r[A], r[B])),
+        Function::ReadGaqGains => replay_gains(*r),
+        Function::ReadScalarAhtMantissas => replay_scalars(r),
+        Function::VqLookup => replay_lookup(
             r,
             books::vq_lookup(r[A], records::number64(r, ARG64) as usize),
         ),
-        11 => replay_count(r, search(r, six(r))),
-        12 => replay_scalar(
+        Function::VqSearch => replay_count(r, search(r, six(r))),
+        Function::QuantiseScalar => replay_scalar(
             r,
             quantiser::quantise_scalar(r[A], r[B], records::number(r, VECTORS)),
         ),
-        13 => replay_bin(r, bin(r, six(r))),
-        17 => replay_three(r, three(r)),
+        Function::QuantiseBin => replay_bin(r, bin(r, six(r))),
+        Function::ReadThree => replay_three(r, three(r)),
         _ => false,
     }
 }
 
-fn next<R: Read>(reader: &mut R, r: &mut Record) -> bool {
-    records::next(reader, r)
+// The same of a record that is lent as a slice.
+fn right_at(r: &[u8]) -> bool {
+    let Ok(record) = <&Record>::try_from(r) else {
+        return false;
+    };
+    right(record)
 }
 
-fn counted(rt: &impl Print, c: Count, r: &Record) -> Count {
-    records::counted(rt, c, r, right(r))
-}
-
-// A proved loop has to end, so it counts its turns, up to a number that no input uses up.
 fn main(rt: HostRuntime) {
     let mut record = [0u8; 256];
-    let mut reader = rt.stdin();
-    let mut c = records::new_count(0);
-    for _ in 0..u64::MAX {
-        if !next(&mut reader, &mut record) {
-            break;
-        }
-        c = counted(&rt, c, &record);
-    }
-    records::print(&rt, c);
+    records::replay(&rt, &mut record, right_at)
 }

@@ -7,8 +7,8 @@ ghost use Rattle.std.specs.Prelude.{◌≤◌};
 use answers::SizeResult;
 use planner::{Plan, Planned};
 use reader::ChannelRead;
-use records::Count;
-use std::io::Read;
+use records::Function;
+use std::convert::TryFrom;
 use writer::ChannelWrite;
 
 type Record = [u8; 1024];
@@ -69,7 +69,7 @@ const FILLER: u8 = 0x42;
 fn size(b: u8, n: usize) -> usize
     ensures { result ≤ n }
 {
-    if (b as usize) < n { b as usize } else { n }
+    usize::from(b).min(n)
 }
 
 fn row(r: &Record) -> &[u8] {
@@ -87,9 +87,7 @@ fn vectors(r: &Record) -> [f32; 48] {
 
 // The gains that a record holds are 32; all others are 0.
 fn same_gains(r: &Record, gains: &[u8; 256]) -> bool {
-    let zeros = channel::no_gains();
-    let given = &gains[..];
-    &given[0..32] == records::part(r, GAINS, 32) && given[32..256] == zeros[32..256]
+    &gains[..32] == records::part(r, GAINS, 32) && gains[32..].iter().all(|gain| *gain == 0)
 }
 
 // ---- plan_aht_channel
@@ -109,7 +107,7 @@ fn same_plan(r: &Record, p: Plan) -> bool {
 
 fn replay_plan(r: &Record, answer: Planned) -> bool {
     let p = answer.plan;
-    records::same_value(r, answer.refusal, p.payload as u64) && same_plan(r, p)
+    records::same_value(r, answer.refusal, u64::from(p.payload)) && same_plan(r, p)
 }
 
 // ---- write_aht_channel
@@ -128,7 +126,7 @@ fn plan_of(r: &Record, gains: [u8; 256]) -> Plan {
         mode: r[MODE],
         gains,
         count: records::number64(r, COUNT) as usize,
-        payload: records::number32(r, PAYLOAD) as u32,
+        payload: records::number32(r, PAYLOAD),
     }
 }
 
@@ -173,10 +171,10 @@ fn same_outputs(r: &Record, values: &[f32; 48], exact: &[i32; 48], indices: &[u1
         if !records::same_float(r, VALUES + 4 * i, values[i]) {
             return false;
         }
-        if exact[i] != records::signed32(records::number32(r, EXACT + 4 * i)) {
+        if exact[i] != records::number32(r, EXACT + 4 * i).cast_signed() {
             return false;
         }
-        if indices[bin] != records::number16(r, INDICES + 2 * bin) as u16 {
+        if indices[bin] != records::number16(r, INDICES + 2 * bin) {
             return false;
         }
     }
@@ -186,7 +184,7 @@ fn same_outputs(r: &Record, values: &[f32; 48], exact: &[i32; 48], indices: &[u1
 // A refusal has its mode, count and gains 0, as the record has.
 fn same_shown(r: &Record, answer: ChannelRead) -> bool {
     let gains = answer.gains;
-    records::same_value(r, answer.refusal, answer.bits as u64)
+    records::same_value(r, answer.refusal, u64::from(answer.bits))
         && r[MODE] == answer.mode
         && records::number64(r, COUNT) == answer.count as u64
         && same_gains(r, &gains)
@@ -232,12 +230,7 @@ fn page_byte(r: &Record, at: usize) -> u8 {
 }
 
 fn same_pages(r: &Record, out: &Output) -> bool {
-    for i in 0..3300 {
-        if out[i] != page_byte(r, i) {
-            return false;
-        }
-    }
-    true
+    out.iter().enumerate().all(|(i, b)| *b == page_byte(r, i))
 }
 
 fn same_print(r: &Record, answer: SizeResult) -> bool {
@@ -250,8 +243,7 @@ fn same_print(r: &Record, answer: SizeResult) -> bool {
 fn output_len(r: &Record) -> usize
     ensures { result ≤ 3300 }
 {
-    let n = records::number64(r, OUTPUT_LEN) as usize;
-    if n < 3300 { n } else { 3300 }
+    (records::number64(r, OUTPUT_LEN) as usize).min(3300)
 }
 
 fn replay_print(r: &Record, plan: Plan, x: [f32; 48]) -> bool {
@@ -266,34 +258,27 @@ fn replay_print(r: &Record, plan: Plan, x: [f32; 48]) -> bool {
 
 // Whether the call of the record gives the record's answer.
 fn right(r: &Record) -> bool {
-    let function = r[0];
+    let Ok(function) = Function::try_from(r[0]) else {
+        return false;
+    };
     match function {
-        14 => replay_plan(r, plan(r, vectors(r))),
-        15 => replay_write(r, plan_of(r, gains_of(r)), vectors(r)),
-        16 => replay_read(r),
-        18 => replay_print(r, plan_of(r, gains_of(r)), vectors(r)),
+        Function::PlanAhtChannel => replay_plan(r, plan(r, vectors(r))),
+        Function::WriteAhtChannel => replay_write(r, plan_of(r, gains_of(r)), vectors(r)),
+        Function::ReadAhtChannel => replay_read(r),
+        Function::PrintPages => replay_print(r, plan_of(r, gains_of(r)), vectors(r)),
         _ => false,
     }
 }
 
-fn next<R: Read>(reader: &mut R, r: &mut Record) -> bool {
-    records::next(reader, r)
+// The same of a record that is lent as a slice.
+fn right_at(r: &[u8]) -> bool {
+    let Ok(record) = <&Record>::try_from(r) else {
+        return false;
+    };
+    right(record)
 }
 
-fn counted(rt: &impl Print, c: Count, r: &Record) -> Count {
-    records::counted(rt, c, r, right(r))
-}
-
-// A proved loop has to end, so it counts its turns, up to a number that no input uses up.
 fn main(rt: HostRuntime) {
     let mut record = [0u8; 1024];
-    let mut reader = rt.stdin();
-    let mut c = records::new_count(0);
-    for _ in 0..u64::MAX {
-        if !next(&mut reader, &mut record) {
-            break;
-        }
-        c = counted(&rt, c, &record);
-    }
-    records::print(&rt, c);
+    records::replay(&rt, &mut record, right_at)
 }
