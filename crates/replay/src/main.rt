@@ -4,12 +4,11 @@
 
 ghost use Rattle.std.specs.Prelude.{◌≤◌};
 
-use answers::{ByteResult, SizeResult};
-use bitreader::ThreeResult;
-use bits::{BitMove, BitRead};
-use gains::GainsResult;
+use answers::Refusal;
+use bitreader::Three;
+use bits::BitPos;
 use levels::Code;
-use quantiser::{PickResult, QuantisedBin};
+use quantiser::{CodeLevel, QuantisedBin};
 use records::Function;
 use std::convert::TryFrom;
 
@@ -68,28 +67,28 @@ fn same_floats(r: &Record, y: &[f32; 6]) -> bool {
 }
 
 // Whether the answer of a call that moves a position is the record's.
-fn same_move(r: &Record, answer: BitMove) -> bool {
+fn same_move(r: &Record, answer: Result<BitPos, Refusal>) -> bool {
     match answer {
-        BitMove::Done(q) => records::same_value(r, 0, 0) && records::same_place(r, q),
-        BitMove::Refused(k) => records::same_value(r, k, 0),
+        Ok(q) => records::same_value(r, 0, 0) && records::same_place(r, q),
+        Err(k) => records::same_value(r, k.number(), 0),
     }
 }
 
-fn read(r: &Record) -> BitRead {
+fn read(r: &Record) -> Result<(u32, BitPos), Refusal> {
     let p = records::position(r);
     p.read_u32(input(r), records::number32(r, ARG32))
 }
 
-fn replay_read(r: &Record, answer: BitRead) -> bool {
+fn replay_read(r: &Record, answer: Result<(u32, BitPos), Refusal>) -> bool {
     match answer {
-        BitRead::Number(v, q) => records::same_value(r, 0, u64::from(v))
+        Ok((v, q)) => records::same_value(r, 0, u64::from(v))
             && records::same_place(r, q),
-        BitRead::Refused(k) => records::same_value(r, k, 0),
+        Err(k) => records::same_value(r, k.number(), 0),
     }
 }
 
 // Three numbers through a reader that keeps the bytes; they stand where an output would.
-fn three(r: &Record) -> ThreeResult {
+fn three(r: &Record) -> Result<Three, Refusal> {
     bitreader::read_three(
         input(r),
         records::position(r),
@@ -105,12 +104,12 @@ fn same_three(r: &Record, x: u32, y: u32, z: u32) -> bool {
         && records::number32(r, OUT_AFTER + 8) == z
 }
 
-fn replay_three(r: &Record, answer: ThreeResult) -> bool {
+fn replay_three(r: &Record, answer: Result<Three, Refusal>) -> bool {
     match answer {
-        ThreeResult::Values(x, y, z, q) => records::same_value(r, 0, 0)
-            && same_three(r, x, y, z)
-            && records::same_place(r, q),
-        ThreeResult::Refused(k) => records::same_value(r, k, 0),
+        Ok(three) => records::same_value(r, 0, 0)
+            && same_three(r, three.first, three.second, three.third)
+            && records::same_place(r, three.pos),
+        Err(k) => records::same_value(r, k.number(), 0),
     }
 }
 
@@ -125,24 +124,24 @@ fn replay_write(r: Record) -> bool {
     same_out(&r, &out, n) && same_move(&r, answer)
 }
 
-fn hebap(r: &Record) -> ByteResult {
+fn hebap(r: &Record) -> Result<u8, Refusal> {
     tables::hebap_from_address(
         records::number16(r, A).cast_signed(),
         records::number32(r, ARG32).cast_signed(),
     )
 }
 
-fn replay_byte(r: &Record, answer: ByteResult) -> bool {
+fn replay_byte(r: &Record, answer: Result<u8, Refusal>) -> bool {
     match answer {
-        ByteResult::Value(v) => records::same_value(r, 0, u64::from(v)),
-        ByteResult::Refused(k) => records::same_value(r, k, 0),
+        Ok(v) => records::same_value(r, 0, u64::from(v)),
+        Err(k) => records::same_value(r, k.number(), 0),
     }
 }
 
-fn replay_count(r: &Record, answer: SizeResult) -> bool {
+fn replay_count(r: &Record, answer: Result<usize, Refusal>) -> bool {
     match answer {
-        SizeResult::Value(n) => records::same_value(r, 0, n as u64),
-        SizeResult::Refused(k) => records::same_value(r, k, 0),
+        Ok(n) => records::same_value(r, 0, n as u64),
+        Err(k) => records::same_value(r, k.number(), 0),
     }
 }
 
@@ -185,9 +184,9 @@ fn replay_gains(r: Record) -> bool {
         return false;
     }
     match answer {
-        GainsResult::Codes(k, q) => records::same_value(&r, 0, k as u64)
+        Ok((n, q)) => records::same_value(&r, 0, n as u64)
             && records::same_place(&r, q),
-        GainsResult::Refused(k) => records::same_value(&r, k, 0),
+        Err(k) => records::same_value(&r, k.number(), 0),
     }
 }
 
@@ -219,7 +218,7 @@ fn replay_lookup(r: &Record, answer: [f32; 6]) -> bool {
     same_floats(r, &answer) && records::same_value(r, 0, 0)
 }
 
-fn search(r: &Record, x: [f32; 6]) -> SizeResult {
+fn search(r: &Record, x: [f32; 6]) -> Result<usize, Refusal> {
     books::vq_search(r[A], &x)
 }
 
@@ -230,24 +229,29 @@ fn same_code(r: &Record, code: Code) -> bool {
     }
 }
 
-fn replay_scalar(r: &Record, answer: PickResult) -> bool {
+fn replay_scalar(r: &Record, answer: Result<CodeLevel, Refusal>) -> bool {
     match answer {
-        PickResult::Picked(code, level) => {
+        Ok(CodeLevel { code, level }) => {
             same_code(r, code) && records::same_float(r, OUT_AFTER, levels::value_of(level))
         }
-        PickResult::Refused(k) => records::same_value(r, k, 0),
+        Err(k) => records::same_value(r, k.number(), 0),
     }
 }
 
-fn bin(r: &Record, x: [f32; 6]) -> QuantisedBin {
+fn bin(r: &Record, x: [f32; 6]) -> Result<QuantisedBin, Refusal> {
     quantiser::quantise_bin(r[A], r[B], &x)
 }
 
-fn replay_bin(r: &Record, answer: QuantisedBin) -> bool {
-    let values = answer.values;
-    records::same_value(r, answer.refusal, answer.bits as u64)
-        && records::same_float(r, ARG32, answer.err)
-        && same_floats(r, &values)
+fn replay_bin(r: &Record, answer: Result<QuantisedBin, Refusal>) -> bool {
+    match answer {
+        Ok(bin) => {
+            let values = bin.values;
+            records::same_value(r, 0, u64::from(bin.bits))
+                && records::same_float(r, ARG32, bin.err)
+                && same_floats(r, &values)
+        }
+        Err(k) => records::same_value(r, k.number(), 0),
+    }
 }
 
 // Whether the call of the record gives the record's answer.

@@ -4,12 +4,12 @@
 
 ghost use Rattle.std.specs.Prelude.{◌≤◌};
 
-use answers::SizeResult;
-use planner::{Plan, Planned};
+use answers::Refusal;
+use bits::BitPos;
+use planner::Plan;
 use reader::ChannelRead;
 use records::Function;
 use std::convert::TryFrom;
-use writer::ChannelWrite;
 
 type Record = [u8; 1024];
 
@@ -92,22 +92,29 @@ fn same_gains(r: &Record, gains: &[u8; 256]) -> bool {
 
 // ---- plan_aht_channel
 
-fn plan(r: &Record, x: [f32; 48]) -> Planned {
+fn plan(r: &Record, x: [f32; 48]) -> Result<Plan, Refusal> {
     let n = size(r[VECTORS_LEN], 48);
     let start = records::number64(r, START) as usize;
     let end = records::number64(r, END) as usize;
     planner::plan_aht_channel(row(r), start, end, &x[0..n])
 }
 
-// A refused plan is zeros, as the record has.
 fn same_plan(r: &Record, p: Plan) -> bool {
     let gains = p.gains;
     r[MODE] == p.mode && records::number64(r, COUNT) == p.count as u64 && same_gains(r, &gains)
 }
 
-fn replay_plan(r: &Record, answer: Planned) -> bool {
-    let p = answer.plan;
-    records::same_value(r, answer.refusal, u64::from(p.payload)) && same_plan(r, p)
+// Beside a refusal the record has zeros.
+fn replay_plan(r: &Record, answer: Result<Plan, Refusal>) -> bool {
+    match answer {
+        Ok(p) => records::same_value(r, 0, u64::from(p.payload)) && same_plan(r, p),
+        Err(k) => records::same_value(r, k.number(), 0) && same_none(r),
+    }
+}
+
+// Whether mode, count and gains of the record are zeros.
+fn same_none(r: &Record) -> bool {
+    r[MODE] == 0 && records::number64(r, COUNT) == 0 && same_gains(r, &channel::no_gains())
 }
 
 // ---- write_aht_channel
@@ -130,10 +137,10 @@ fn plan_of(r: &Record, gains: [u8; 256]) -> Plan {
     }
 }
 
-fn same_write(r: &Record, answer: ChannelWrite) -> bool {
+fn same_write(r: &Record, answer: Result<BitPos, Refusal>) -> bool {
     match answer {
-        ChannelWrite::Done(q) => records::same_value(r, 0, 0) && records::same_place(r, q),
-        ChannelWrite::Refused(k) => records::same_value(r, k, 0),
+        Ok(q) => records::same_value(r, 0, 0) && records::same_place(r, q),
+        Err(k) => records::same_value(r, k.number(), 0),
     }
 }
 
@@ -181,13 +188,17 @@ fn same_outputs(r: &Record, values: &[f32; 48], exact: &[i32; 48], indices: &[u1
     true
 }
 
-// A refusal has its mode, count and gains 0, as the record has.
-fn same_shown(r: &Record, answer: ChannelRead) -> bool {
-    let gains = answer.gains;
-    records::same_value(r, answer.refusal, u64::from(answer.bits))
-        && r[MODE] == answer.mode
-        && records::number64(r, COUNT) == answer.count as u64
-        && same_gains(r, &gains)
+fn same_shown(r: &Record, answer: Result<ChannelRead, Refusal>) -> bool {
+    match answer {
+        Ok(shown) => {
+            let gains = shown.gains;
+            records::same_value(r, 0, u64::from(shown.bits))
+                && r[MODE] == shown.mode
+                && records::number64(r, COUNT) == shown.count as u64
+                && same_gains(r, &gains)
+        }
+        Err(k) => records::same_value(r, k.number(), 0) && same_none(r),
+    }
 }
 
 fn replay_read(r: &Record) -> bool {
@@ -233,10 +244,10 @@ fn same_pages(r: &Record, out: &Output) -> bool {
     out.iter().enumerate().all(|(i, b)| *b == page_byte(r, i))
 }
 
-fn same_print(r: &Record, answer: SizeResult) -> bool {
+fn same_print(r: &Record, answer: Result<usize, Refusal>) -> bool {
     match answer {
-        SizeResult::Value(n) => records::same_value(r, 0, n as u64),
-        SizeResult::Refused(k) => records::same_value(r, k, 0),
+        Ok(n) => records::same_value(r, 0, n as u64),
+        Err(k) => records::same_value(r, k.number(), 0),
     }
 }
 
