@@ -1,20 +1,14 @@
 // A channel planned, written and read.
 ghost use Rattle.std.specs.Prelude.{◌≡◌};
+ghost use Rattle.answers.specs.Answers.{answer_number, after_answer, value_or};
 ghost use Rattle.planner.specs.Planning.{planned};
-ghost use Rattle.writer.specs.Written.{channel_written, write_number, write_place};
+ghost use Rattle.writer.specs.Written.{channel_written};
 ghost use Rattle.reader.specs.Reading.{answer_to, values_after, exact_after, indices_after};
-ghost use Rattle.fathrugg.specs.Answers.{place, bit_of_place, channel_at, call_at, place_after, from_plan, from_read, lent_plan};
+ghost use Rattle.fathrugg.specs.Answers.{place, bit_of_place, channel_at, call_at, place_after, lent_plan};
 
+use super::store_place;
 use bits::BitPos;
-use planner::{Plan, Planned};
-use reader::ChannelRead;
-use writer::ChannelWrite;
-
-fn gains_of(p: Planned) -> [u8; 256]
-    ensures { result ≡ p.plan.gains }
-{
-    p.plan.gains
-}
+use planner::Plan;
 
 // The plan of the bins start to end - 1: its mode, its gains in bin order, how many, and its payload. Refusals 1 to 5.
 #[unsafe(no_mangle)]
@@ -28,21 +22,23 @@ pub extern "C" fn fathrugg_plan_aht_channel(
     count: &mut usize,
     payload: &mut u32,
 ) -> u8
-    ensures value { result ≡ (planned hebap.now start end x.now).refusal }
-    ensures mode_after { mode.new ≡ from_plan (planned hebap.now start end x.now) (λ p. p.mode) mode.old }
-    ensures gains_after { gains.new ≡ from_plan (planned hebap.now start end x.now) (λ p. p.gains) gains.old }
-    ensures count_after { count.new ≡ from_plan (planned hebap.now start end x.now) (λ p. p.count) count.old }
-    ensures payload_after { payload.new ≡ from_plan (planned hebap.now start end x.now) (λ p. p.payload) payload.old }
+    ensures value { result ≡ answer_number (planned hebap.now start end x.now) }
+    ensures mode_after { mode.new ≡ after_answer (λ p. p.mode) mode.old (planned hebap.now start end x.now) }
+    ensures gains_after { gains.new ≡ after_answer (λ p. p.gains) gains.old (planned hebap.now start end x.now) }
+    ensures count_after { count.new ≡ after_answer (λ p. p.count) count.old (planned hebap.now start end x.now) }
+    ensures payload_after { payload.new ≡ after_answer (λ p. p.payload) payload.old (planned hebap.now start end x.now) }
 {
-    let p = planner::plan_aht_channel(hebap, start, end, x);
-    if p.refusal == 0 {
-        *mode = p.plan.mode;
-        *gains = gains_of(p);
-        *count = p.plan.count;
-        *payload = p.plan.payload;
-        return 0;
+    match planner::plan_aht_channel(hebap, start, end, x) {
+        Err(k) => k.number(),
+        Ok(p) => {
+            *mode = p.mode;
+            let all = p.gains;
+            *gains = all;
+            *count = p.count;
+            *payload = p.payload;
+            0
+        }
     }
-    p.refusal
 }
 
 // Writes the field of a plan, whose gains are the first count places, from the position on. Refusals 1 to 7.
@@ -60,39 +56,28 @@ pub extern "C" fn fathrugg_write_aht_channel(
     byte: &mut usize,
     bit: &mut u32,
 ) -> u8
-    ensures value { result ≡ write_number (channel_at (lent_plan mode gains.now count payload)
+    ensures value { result ≡ answer_number (channel_at (lent_plan mode gains.now count payload)
         hebap.now start end x.now out.old byte.old bit.old) }
     ensures out_after { out.new ≡ channel_written (lent_plan mode gains.now count payload)
         hebap.now start end x.now out.old (bit_of_place byte.old bit.old) }
-    ensures bit_after { place byte.new bit.new ≡ write_place (place byte.old bit.old) (channel_at (lent_plan mode gains.now count payload)
+    ensures bit_after { place byte.new bit.new ≡ value_or (place byte.old bit.old) (channel_at (lent_plan mode gains.now count payload)
         hebap.now start end x.now out.old byte.old bit.old) }
 {
     let p = BitPos {
         byte: *byte,
         bit: *bit,
     };
-    let g = *gains;
     let plan = Plan {
         mode,
-        gains: g,
+        gains: *gains,
         count,
         payload,
     };
-    let answer = writer::write_aht_channel(plan, hebap, start, end, x, &mut *out, p);
-    match answer {
-        ChannelWrite::Refused(k) => k,
-        ChannelWrite::Done(q) => {
-            *byte = q.byte;
-            *bit = q.bit;
-            0
-        }
-    }
-}
-
-fn gains_read(r: ChannelRead) -> [u8; 256]
-    ensures { result ≡ r.gains }
-{
-    r.gains
+    store_place(
+        writer::write_aht_channel(plan, hebap, start, end, x, out, p),
+        byte,
+        bit,
+    )
 }
 
 // Reads the field of the bins start to end - 1 from the position on, and moves the position behind it: six f32, six
@@ -114,8 +99,8 @@ pub extern "C" fn fathrugg_read_aht_channel(
     count: &mut usize,
     bits: &mut u32,
 ) -> u8
-    ensures value { result ≡ (answer_to hebap.now start end
-        (call_at src.now byte.old bit.old values.old exact.old indices.old)).refusal }
+    ensures value { result ≡ answer_number (answer_to hebap.now start end
+        (call_at src.now byte.old bit.old values.old exact.old indices.old)) }
     ensures bit_after { place byte.new bit.new ≡ place_after (place byte.old bit.old) (answer_to hebap.now start end
         (call_at src.now byte.old bit.old values.old exact.old indices.old)) }
     ensures values_after { values.new ≡ values_after hebap.now start end
@@ -124,42 +109,28 @@ pub extern "C" fn fathrugg_read_aht_channel(
         (call_at src.now byte.old bit.old values.old exact.old indices.old) }
     ensures indices_after { indices.new ≡ indices_after hebap.now start end
         (call_at src.now byte.old bit.old values.old exact.old indices.old) }
-    ensures mode_after { mode.new ≡ from_read (answer_to hebap.now start end
-        (call_at src.now byte.old bit.old values.old exact.old indices.old))
-        (λ c. c.mode) mode.old }
-    ensures gains_after { gains.new ≡ from_read (answer_to hebap.now start end
-        (call_at src.now byte.old bit.old values.old exact.old indices.old))
-        (λ c. c.gains) gains.old }
-    ensures count_after { count.new ≡ from_read (answer_to hebap.now start end
-        (call_at src.now byte.old bit.old values.old exact.old indices.old))
-        (λ c. c.count) count.old }
-    ensures bits_after { bits.new ≡ from_read (answer_to hebap.now start end
-        (call_at src.now byte.old bit.old values.old exact.old indices.old))
-        (λ c. c.bits) bits.old }
+    ensures mode_after { mode.new ≡ after_answer (λ c. c.mode) mode.old (answer_to hebap.now start end
+        (call_at src.now byte.old bit.old values.old exact.old indices.old)) }
+    ensures gains_after { gains.new ≡ after_answer (λ c. c.gains) gains.old (answer_to hebap.now start end
+        (call_at src.now byte.old bit.old values.old exact.old indices.old)) }
+    ensures count_after { count.new ≡ after_answer (λ c. c.count) count.old (answer_to hebap.now start end
+        (call_at src.now byte.old bit.old values.old exact.old indices.old)) }
+    ensures bits_after { bits.new ≡ after_answer (λ c. c.bits) bits.old (answer_to hebap.now start end
+        (call_at src.now byte.old bit.old values.old exact.old indices.old)) }
 {
     let p = BitPos {
         byte: *byte,
         bit: *bit,
     };
-    let c = reader::read_aht_channel(
-        src,
-        p,
-        hebap,
-        start,
-        end,
-        &mut *values,
-        &mut *exact,
-        &mut *indices,
-    );
-    if c.refusal == 0 {
-        let q = p.advance(1, c.bits as usize);
-        *byte = q.byte;
-        *bit = q.bit;
-        *mode = c.mode;
-        *gains = gains_read(c);
-        *count = c.count;
-        *bits = c.bits;
-        return 0;
+    match reader::read_aht_channel(src, p, hebap, start, end, values, exact, indices) {
+        Err(k) => k.number(),
+        Ok(c) => {
+            *mode = c.mode;
+            let all = c.gains;
+            *gains = all;
+            *count = c.count;
+            *bits = c.bits;
+            store_place(Ok(p.advance(1, c.bits as usize)), byte, bit)
+        }
     }
-    c.refusal
 }

@@ -1,10 +1,10 @@
 // A plan on pages.
 ghost use Rattle.std.specs.Prelude.{◌≡◌};
-ghost use Rattle.answers.specs.Answers.{size_number, size_value};
+ghost use Rattle.answers.specs.Answers.{answer_number, value_or};
 ghost use Rattle.pages.specs.Printing.{pages_print, pages_printed};
 ghost use Rattle.fathrugg.specs.Answers.{lent_plan};
 
-use answers::SizeResult;
+use super::store;
 use planner::Plan;
 
 // Prints the pages of a plan, whose gains are the first count places, to the front of out, and says how many bytes they
@@ -22,26 +22,18 @@ pub extern "C" fn fathrugg_print_pages(
     out: &mut [u8],
     length: &mut usize,
 ) -> u8
-    ensures value { result ≡ size_number (pages_print (lent_plan mode gains.now count payload)
+    ensures value { result ≡ answer_number (pages_print (lent_plan mode gains.now count payload)
         hebap.now start end x.now out.old) }
     ensures out_after { out.new ≡ pages_printed (lent_plan mode gains.now count payload)
         hebap.now start end x.now out.old }
-    ensures length_after { length.new ≡ size_value length.old (pages_print (lent_plan mode gains.now count payload)
+    ensures length_after { length.new ≡ value_or length.old (pages_print (lent_plan mode gains.now count payload)
         hebap.now start end x.now out.old) }
 {
-    let g = *gains;
     let plan = Plan {
         mode,
-        gains: g,
+        gains: *gains,
         count,
         payload,
     };
-    let answer = pages::print_pages(plan, hebap, start, end, x, &mut *out);
-    match answer {
-        SizeResult::Refused(k) => k,
-        SizeResult::Value(n) => {
-            *length = n;
-            0
-        }
-    }
+    store(pages::print_pages(plan, hebap, start, end, x, out), length)
 }

@@ -1,14 +1,12 @@
 // Codes for mantissas: the books and the scalar quantiser.
 ghost use Rattle.std.specs.Prelude.{◌≡◌};
-ghost use Rattle.answers.specs.Answers.{size_number, size_value};
+ghost use Rattle.answers.specs.Answers.{answer_number, after_answer, value_or};
 ghost use Rattle.levels.specs.Codes.{large_of, code_of};
 ghost use Rattle.books.specs.Books.{vq_lookup, vq_search};
-ghost use Rattle.quantiser.specs.Quantise.{quantised, quantised_bin, picked_number, picked_large, picked_code, picked_value};
-ghost use Rattle.fathrugg.specs.Answers.{after_number};
+ghost use Rattle.quantiser.specs.Quantise.{quantised, quantised_bin, picked_large, picked_code, picked_value};
 
-use answers::SizeResult;
+use super::store;
 use levels::Code;
-use quantiser::{PickResult, QuantisedBin};
 
 // The vector at an index of the book of the hebap. No refusal.
 #[unsafe(no_mangle)]
@@ -23,17 +21,10 @@ pub extern "C" fn fathrugg_vq_lookup(hebap: u8, index: usize, out: &mut [f32; 6]
 // The index of the vector nearest to x in the book of the hebap. Refusal 5.
 #[unsafe(no_mangle)]
 pub extern "C" fn fathrugg_vq_search(hebap: u8, x: &[f32; 6], index: &mut usize) -> u8
-    ensures value { result ≡ size_number (vq_search hebap x.now) }
-    ensures index_after { index.new ≡ size_value index.old (vq_search hebap x.now) }
+    ensures value { result ≡ answer_number (vq_search hebap x.now) }
+    ensures index_after { index.new ≡ value_or index.old (vq_search hebap x.now) }
 {
-    let answer = books::vq_search(hebap, x);
-    match answer {
-        SizeResult::Refused(k) => k,
-        SizeResult::Value(i) => {
-            *index = i;
-            0
-        }
-    }
+    store(books::vq_search(hebap, x), index)
 }
 
 fn large_of(code: Code) -> u8
@@ -64,27 +55,20 @@ pub extern "C" fn fathrugg_quantise_scalar(
     code: &mut u32,
     value: &mut f32,
 ) -> u8
-    ensures value { result ≡ picked_number (quantised hebap gk x) }
+    ensures value { result ≡ answer_number (quantised hebap gk x) }
     ensures large_after { large.new ≡ picked_large large.old (quantised hebap gk x) }
     ensures code_after { code.new ≡ picked_code code.old (quantised hebap gk x) }
     ensures value_after { value.new ≡ picked_value value.old (quantised hebap gk x) }
 {
-    let answer = quantiser::quantise_scalar(hebap, gk, x);
-    match answer {
-        PickResult::Refused(k) => k,
-        PickResult::Picked(c, l) => {
-            *large = large_of(c);
-            *code = code_of(c);
-            *value = levels::value_of(l);
+    match quantiser::quantise_scalar(hebap, gk, x) {
+        Err(k) => k.number(),
+        Ok(p) => {
+            *large = large_of(p.code);
+            *code = code_of(p.code);
+            *value = levels::value_of(p.level);
             0
         }
     }
-}
-
-fn values_of(b: QuantisedBin) -> [f32; 6]
-    ensures { result ≡ b.values }
-{
-    b.values
 }
 
 // The six values of a bin, its bits and the sum of its squared errors. Refusals 11, 5.
@@ -97,17 +81,19 @@ pub extern "C" fn fathrugg_quantise_bin(
     bits: &mut u32,
     err: &mut f32,
 ) -> u8
-    ensures value { result ≡ (quantised_bin hebap gk x.now).refusal }
-    ensures values_after { values.new ≡ after_number (quantised_bin hebap gk x.now).refusal (quantised_bin hebap gk x.now).values values.old }
-    ensures bits_after { bits.new ≡ after_number (quantised_bin hebap gk x.now).refusal (quantised_bin hebap gk x.now).bits bits.old }
-    ensures err_after { err.new ≡ after_number (quantised_bin hebap gk x.now).refusal (quantised_bin hebap gk x.now).err err.old }
+    ensures value { result ≡ answer_number (quantised_bin hebap gk x.now) }
+    ensures values_after { values.new ≡ after_answer (λ b. b.values) values.old (quantised_bin hebap gk x.now) }
+    ensures bits_after { bits.new ≡ after_answer (λ b. b.bits) bits.old (quantised_bin hebap gk x.now) }
+    ensures err_after { err.new ≡ after_answer (λ b. b.err) err.old (quantised_bin hebap gk x.now) }
 {
-    let b = quantiser::quantise_bin(hebap, gk, x);
-    if b.refusal == 0 {
-        *values = values_of(b);
-        *bits = b.bits;
-        *err = b.err;
-        return 0;
+    match quantiser::quantise_bin(hebap, gk, x) {
+        Err(k) => k.number(),
+        Ok(b) => {
+            let six = b.values;
+            *values = six;
+            *bits = b.bits;
+            *err = b.err;
+            0
+        }
     }
-    b.refusal
 }

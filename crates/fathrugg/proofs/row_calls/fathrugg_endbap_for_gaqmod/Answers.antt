@@ -1,9 +1,0 @@
--- `fathrugg::row_calls::fathrugg_endbap_for_gaqmod` meets its contract. Assumes nothing.
-use mathlib.Core.Path.{refl, sym, ◌∙◌}
-use Rattle.fathrugg.proofs.row_calls.fathrugg_endbap_for_gaqmod.Goals as goal
-
-pub returns-in-Refused : goal.returns-in-Refused
-returns-in-Refused c = rw (sym c.endbap_for_gaqmod-answer.ensures ∙ c.in-Refused.is) record { value = refl; endbap_after = refl }
-
-pub returns-in-Value : goal.returns-in-Value
-returns-in-Value c = rw (sym c.endbap_for_gaqmod-answer.ensures ∙ c.in-Value.is) record { value = refl; endbap_after = refl }
