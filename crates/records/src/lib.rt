@@ -3,11 +3,14 @@
 // the count of answers. A place behind the end holds 0.
 #![tactic(auto)]
 
-ghost use Rattle.std.specs.Prelude.{◌≡◌, ◌<◌, take, drop};
+ghost use Rattle.std.specs.Prelude.{◌≡◌, ◌<◌, ◌&&◌, take, drop, MatchResult};
 ghost use Rattle.std.specs.Bool.{OnTrue};
+ghost use Rattle.std.specs.Result.{ForOk};
 ghost use Rattle.std.specs.Io.KnownBytes.{Consumes};
+ghost use Rattle.answers.specs.Causes.{number};
 ghost use Rattle.records.specs.Records.{at8, at16, at32, at64, float_of, position_of, same_value, same_place, same_float, new_count, one_more, count_after};
 
+use answers::Refusal;
 use bits::BitPos;
 use std::convert::TryFrom;
 use std::fmt::{self, Display, Formatter, Write};
@@ -183,11 +186,37 @@ pub fn same_value(r: &[u8], refusal: u8, value: u64) -> bool
     byte(r, REFUSAL) == refusal && number64(r, VALUE) == value
 }
 
+// Whether an answer is the record's: a refusal by its number, beside which the record has no value, and else what `right`
+// says of what the answer holds.
+pub fn same_answer<T, F: FnOnce(T) -> bool>(r: &[u8], answer: Result<T, Refusal>, right: F) -> bool
+    requires { ForOk answer (F.pre right) }
+    ensures { MatchResult answer (λ x. F.post right x result) (λ k. result ≡ same_value r.now (number k) 0) }
+{
+    match answer {
+        Ok(x) => right(x),
+        Err(k) => same_value(r, k.number(), 0),
+    }
+}
+
 // Whether the position is the record's.
 pub fn same_place(r: &[u8], p: BitPos) -> bool
     ensures { result ≡ same_place r.now p }
 {
     number64(r, NEXT_BYTE) == p.byte as u64 && number32(r, NEXT_BIT) == p.bit
+}
+
+// Whether an answer that moves a position is the record's.
+pub fn same_move(r: &[u8], answer: Result<BitPos, Refusal>) -> bool
+    ensures { MatchResult answer (λ p. result ≡ same_value r.now 0 0 && same_place r.now p) (λ k. result ≡ same_value r.now (number k) 0) }
+{
+    same_answer(r, answer, |p| same_value(r, 0, 0) && same_place(r, p))
+}
+
+// Whether an answer that is a number is the record's.
+pub fn same_number(r: &[u8], answer: Result<usize, Refusal>) -> bool
+    ensures { MatchResult answer (λ n. result ≡ same_value r.now 0 n) (λ k. result ≡ same_value r.now (number k) 0) }
+{
+    same_answer(r, answer, |n| same_value(r, 0, n as u64))
 }
 
 // Whether y has the bits that the record has at a place. A NaN has no bits of its own, and no answer is one.

@@ -39,16 +39,9 @@ const OUT_AFTER: usize = 80;
 
 const VECTORS: usize = 128;
 
-// A length of the record, at most 24.
-fn size(b: u8) -> usize
-    ensures { result ≤ 24 }
-{
-    usize::from(b).min(24)
-}
-
 // The input of the call.
 fn input(r: &Record) -> &[u8] {
-    records::part(r, SRC, size(r[SRC_LEN]))
+    records::part(r, SRC, usize::from(r[SRC_LEN]).min(24))
 }
 
 // Whether the n places of the output, in a copy of the record, are what the record has after the call.
@@ -66,25 +59,15 @@ fn same_floats(r: &Record, y: &[f32; 6]) -> bool {
     true
 }
 
-// Whether the answer of a call that moves a position is the record's.
-fn same_move(r: &Record, answer: Result<BitPos, Refusal>) -> bool {
-    match answer {
-        Ok(q) => records::same_value(r, 0, 0) && records::same_place(r, q),
-        Err(k) => records::same_value(r, k.number(), 0),
-    }
-}
-
 fn read(r: &Record) -> Result<(u32, BitPos), Refusal> {
     let p = records::position(r);
     p.read_u32(input(r), records::number32(r, ARG32))
 }
 
 fn replay_read(r: &Record, answer: Result<(u32, BitPos), Refusal>) -> bool {
-    match answer {
-        Ok((v, q)) => records::same_value(r, 0, u64::from(v))
-            && records::same_place(r, q),
-        Err(k) => records::same_value(r, k.number(), 0),
-    }
+    records::same_answer(r, answer, |(v, q)| {
+        records::same_value(r, 0, u64::from(v)) && records::same_place(r, q)
+    })
 }
 
 // Three numbers through a reader that keeps the bytes; they stand where an output would.
@@ -105,23 +88,22 @@ fn same_three(r: &Record, x: u32, y: u32, z: u32) -> bool {
 }
 
 fn replay_three(r: &Record, answer: Result<Three, Refusal>) -> bool {
-    match answer {
-        Ok(three) => records::same_value(r, 0, 0)
+    records::same_answer(r, answer, |three| {
+        records::same_value(r, 0, 0)
             && same_three(r, three.first, three.second, three.third)
-            && records::same_place(r, three.pos),
-        Err(k) => records::same_value(r, k.number(), 0),
-    }
+            && records::same_place(r, three.pos)
+    })
 }
 
 // The call writes to the place of the output in a copy of the record.
 fn replay_write(r: Record) -> bool {
     let mut out = r;
-    let n = size(r[OUT_LEN]);
+    let n = usize::from(r[OUT_LEN]).min(24);
     let end = OUT + n;
     let p = records::position(&r);
     let v = records::number32(&r, ARG32);
     let answer = p.write_u32(&mut out[OUT..end], v, u32::from(r[A]));
-    same_out(&r, &out, n) && same_move(&r, answer)
+    same_out(&r, &out, n) && records::same_move(&r, answer)
 }
 
 fn hebap(r: &Record) -> Result<u8, Refusal> {
@@ -129,20 +111,6 @@ fn hebap(r: &Record) -> Result<u8, Refusal> {
         records::number16(r, A).cast_signed(),
         records::number32(r, ARG32).cast_signed(),
     )
-}
-
-fn replay_byte(r: &Record, answer: Result<u8, Refusal>) -> bool {
-    match answer {
-        Ok(v) => records::same_value(r, 0, u64::from(v)),
-        Err(k) => records::same_value(r, k.number(), 0),
-    }
-}
-
-fn replay_count(r: &Record, answer: Result<usize, Refusal>) -> bool {
-    match answer {
-        Ok(n) => records::same_value(r, 0, n as u64),
-        Err(k) => records::same_value(r, k.number(), 0),
-    }
 }
 
 // The output before the call, as signed numbers.
@@ -167,27 +135,23 @@ fn same_marks(r: &Record, n: usize, marks: &[i8; 24]) -> bool
 
 fn replay_fill(r: &Record, before: [i8; 24]) -> bool {
     let mut marks = before;
-    let n = size(r[OUT_LEN]);
+    let n = usize::from(r[OUT_LEN]).min(24);
     let answer = gains::fill_gaqbin(input(r), r[A], &mut marks[0..n]);
-    same_marks(r, n, &marks) && replay_count(r, answer)
+    same_marks(r, n, &marks) && records::same_number(r, answer)
 }
 
 fn replay_gains(r: Record) -> bool {
     let mut out = r;
-    let n = size(r[OUT_LEN]);
+    let n = usize::from(r[OUT_LEN]).min(24);
     let end = OUT + n;
     let p = records::position(&r);
     let sections = records::number64(&r, ARG64) as usize;
     let mode = r[A];
     let answer = gains::read_gaq_gains(input(&r), p, mode, sections, &mut out[OUT..end]);
-    if !same_out(&r, &out, n) {
-        return false;
-    }
-    match answer {
-        Ok((n, q)) => records::same_value(&r, 0, n as u64)
-            && records::same_place(&r, q),
-        Err(k) => records::same_value(&r, k.number(), 0),
-    }
+    same_out(&r, &out, n)
+        && records::same_answer(&r, answer, |(n, q)| {
+            records::same_value(&r, 0, n as u64) && records::same_place(&r, q)
+        })
 }
 
 fn replay_scalars(r: &Record) -> bool {
@@ -203,7 +167,7 @@ fn replay_scalars(r: &Record) -> bool {
         r[D],
         &mut values,
     );
-    same_floats(r, &values) && same_move(r, answer)
+    same_floats(r, &values) && records::same_move(r, answer)
 }
 
 fn six(r: &Record) -> [f32; 6] {
@@ -230,12 +194,10 @@ fn same_code(r: &Record, code: Code) -> bool {
 }
 
 fn replay_scalar(r: &Record, answer: Result<CodeLevel, Refusal>) -> bool {
-    match answer {
-        Ok(CodeLevel { code, level }) => {
-            same_code(r, code) && records::same_float(r, OUT_AFTER, levels::value_of(level))
-        }
-        Err(k) => records::same_value(r, k.number(), 0),
-    }
+    records::same_answer(r, answer, |picked| {
+        same_code(r, picked.code)
+            && records::same_float(r, OUT_AFTER, levels::value_of(picked.level))
+    })
 }
 
 fn bin(r: &Record, x: [f32; 6]) -> Result<QuantisedBin, Refusal> {
@@ -243,15 +205,12 @@ fn bin(r: &Record, x: [f32; 6]) -> Result<QuantisedBin, Refusal> {
 }
 
 fn replay_bin(r: &Record, answer: Result<QuantisedBin, Refusal>) -> bool {
-    match answer {
-        Ok(bin) => {
-            let values = bin.values;
-            records::same_value(r, 0, u64::from(bin.bits))
-                && records::same_float(r, ARG32, bin.err)
-                && same_floats(r, &values)
-        }
-        Err(k) => records::same_value(r, k.number(), 0),
-    }
+    records::same_answer(r, answer, |bin| {
+        let values = bin.values;
+        records::same_value(r, 0, u64::from(bin.bits))
+            && records::same_float(r, ARG32, bin.err)
+            && same_floats(r, &values)
+    })
 }
 
 // Whether the call of the record gives the record's answer.
@@ -262,21 +221,27 @@ fn right(r: &Record) -> bool {
     match function {
         Function::ReadU32 => replay_read(r, read(r)),
         Function::WriteU32 => replay_write(*r),
-        Function::HebapFromAddress => replay_byte(r, hebap(r)),
-        Function::EndbapForGaqmod => replay_byte(r, gains::endbap_for_gaqmod(r[A])),
+        Function::HebapFromAddress => records::same_number(r, hebap(r).map(usize::from)),
+        Function::EndbapForGaqmod => records::same_number(
+            r,
+            gains::endbap_for_gaqmod(r[A]).map(usize::from),
+        ),
         Function::FillGaqbin => replay_fill(r, marks_of(r)),
-        Function::GaqSections => replay_count(
+        Function::GaqSections => records::same_number(
             r,
             gains::gaq_sections(r[A], records::number64(r, ARG64) as usize),
         ),
-        Function::GaqGainValue => replay_byte(r, gains::gaq_gain_value(r[A], r[B])),
+        Function::GaqGainValue => records::same_number(
+            r,
+            gains::gaq_gain_value(r[A], r[B]).map(usize::from),
+        ),
         Function::ReadGaqGains => replay_gains(*r),
         Function::ReadScalarAhtMantissas => replay_scalars(r),
         Function::VqLookup => replay_lookup(
             r,
             books::vq_lookup(r[A], records::number64(r, ARG64) as usize),
         ),
-        Function::VqSearch => replay_count(r, search(r, six(r))),
+        Function::VqSearch => records::same_number(r, search(r, six(r))),
         Function::QuantiseScalar => replay_scalar(
             r,
             quantiser::quantise_scalar(r[A], r[B], records::number(r, VECTORS)),

@@ -65,15 +65,8 @@ const LINES: usize = 320;
 // What stands in the output before the call.
 const FILLER: u8 = 0x42;
 
-// A length of the record, at most n.
-fn size(b: u8, n: usize) -> usize
-    ensures { result ≤ n }
-{
-    usize::from(b).min(n)
-}
-
 fn row(r: &Record) -> &[u8] {
-    records::part(r, ROW, size(r[ROW_LEN], 16))
+    records::part(r, ROW, usize::from(r[ROW_LEN]).min(16))
 }
 
 // The components of eight bins.
@@ -93,7 +86,7 @@ fn same_gains(r: &Record, gains: &[u8; 256]) -> bool {
 // ---- plan_aht_channel
 
 fn plan(r: &Record, x: [f32; 48]) -> Result<Plan, Refusal> {
-    let n = size(r[VECTORS_LEN], 48);
+    let n = usize::from(r[VECTORS_LEN]).min(48);
     let start = records::number64(r, START) as usize;
     let end = records::number64(r, END) as usize;
     planner::plan_aht_channel(row(r), start, end, &x[0..n])
@@ -137,13 +130,6 @@ fn plan_of(r: &Record, gains: [u8; 256]) -> Plan {
     }
 }
 
-fn same_write(r: &Record, answer: Result<BitPos, Refusal>) -> bool {
-    match answer {
-        Ok(q) => records::same_value(r, 0, 0) && records::same_place(r, q),
-        Err(k) => records::same_value(r, k.number(), 0),
-    }
-}
-
 // Whether the bytes, in a copy of the record, are what the record has after the call.
 fn same_bytes(r: &Record, out: &Record) -> bool {
     records::part(out, BYTES, 128) == records::part(r, BYTES_AFTER, 128)
@@ -152,8 +138,8 @@ fn same_bytes(r: &Record, out: &Record) -> bool {
 // The call writes to the bytes in a copy of the record.
 fn replay_write(r: &Record, plan: Plan, x: [f32; 48]) -> bool {
     let mut out = *r;
-    let n = size(r[VECTORS_LEN], 48);
-    let end_of_bytes = BYTES + size(r[BYTES_LEN], 128);
+    let n = usize::from(r[VECTORS_LEN]).min(48);
+    let end_of_bytes = BYTES + usize::from(r[BYTES_LEN]).min(128);
     let start = records::number64(r, START) as usize;
     let end = records::number64(r, END) as usize;
     let p = records::position(r);
@@ -166,7 +152,7 @@ fn replay_write(r: &Record, plan: Plan, x: [f32; 48]) -> bool {
         &mut out[BYTES..end_of_bytes],
         p,
     );
-    same_bytes(r, &out) && same_write(r, answer)
+    same_bytes(r, &out) && records::same_move(r, answer)
 }
 
 // ---- read_aht_channel
@@ -206,10 +192,10 @@ fn replay_read(r: &Record) -> bool {
     let mut values = [48.564705f32; 48];
     let mut exact = [0x4242_4242i32; 48];
     let mut indices = [0x4242u16; 8];
-    let len = size(r[BYTES_LEN], 128);
-    let a = size(r[VALUES_LEN], 48);
-    let b = size(r[EXACT_LEN], 48);
-    let c = size(r[INDICES_LEN], 8);
+    let len = usize::from(r[BYTES_LEN]).min(128);
+    let a = usize::from(r[VALUES_LEN]).min(48);
+    let b = usize::from(r[EXACT_LEN]).min(48);
+    let c = usize::from(r[INDICES_LEN]).min(8);
     let p = records::position(r);
     let start = records::number64(r, START) as usize;
     let end = records::number64(r, END) as usize;
@@ -244,13 +230,6 @@ fn same_pages(r: &Record, out: &Output) -> bool {
     out.iter().enumerate().all(|(i, b)| *b == page_byte(r, i))
 }
 
-fn same_print(r: &Record, answer: Result<usize, Refusal>) -> bool {
-    match answer {
-        Ok(n) => records::same_value(r, 0, n as u64),
-        Err(k) => records::same_value(r, k.number(), 0),
-    }
-}
-
 fn output_len(r: &Record) -> usize
     ensures { result ≤ 3300 }
 {
@@ -259,12 +238,12 @@ fn output_len(r: &Record) -> usize
 
 fn replay_print(r: &Record, plan: Plan, x: [f32; 48]) -> bool {
     let mut out = [FILLER; 3300];
-    let n = size(r[VECTORS_LEN], 48);
+    let n = usize::from(r[VECTORS_LEN]).min(48);
     let len = output_len(r);
     let start = records::number64(r, START) as usize;
     let end = records::number64(r, END) as usize;
     let answer = pages::print_pages(plan, row(r), start, end, &x[0..n], &mut out[0..len]);
-    same_pages(r, &out) && same_print(r, answer)
+    same_pages(r, &out) && records::same_number(r, answer)
 }
 
 // Whether the call of the record gives the record's answer.
