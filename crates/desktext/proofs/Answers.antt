@@ -1,41 +1,42 @@
 -- What the desk prints: the plan with the bytes of its field, or a refusal. Assumes nothing.
-use Prim.Native.Nat.{ℕ, zero, suc, ◌+◌, ◌-◌, ◌*◌, ◌/◌, ◌≤◌, ◌<◌}
+use Prim.Native.Nat.{ℕ, zero, suc, ◌+◌, ◌-◌, ◌*◌, ◌/◌, ◌≤◌}
 use mathlib.Core.Path.{◌≡◌, refl, sym, ap, ◌∙◌}
 use mathlib.Core.List.{List, ◌∷◌, ◌++◌, map, append_assoc}
-use mathlib.Core.Bool.{Bool, true, false, cond}
+use mathlib.Core.Bool.{Bool, true}
 use native.Mathlib.Omega.{arith}
 use native.Mathlib.Nat.{le_trans, le_of_eq, suc-add, min-le_left}
-use borrow.Author.Tests.{ne_eqb, eqb-true, le-leb}
-use lib.Dec.{eqb}
+use borrow.Author.Tests.{le-leb}
 use lib.Ieee.{Float}
 use lib.ListN.{length, take, drop, replicate, length-append, length-take, length-drop, length-map, length-replicate, replicate-append-replicate}
 use lib.Seq.{take-append-le, drop-append-le}
 use Rattle.bits.specs.Bits.{number_of, bits_of, bytes_of, splice, pos_of, bytes_with}
-use Rattle.answers.specs.declared.SizeResult.{SizeResult}
+use Rattle.std.specs.Prelude.{None, Result, Ok, Err}
+use Rattle.answers.specs.Answers.{answer_number, value_or}
+use Rattle.answers.specs.Causes.{number, cause_number}
+use Rattle.answers.specs.declared.Refusal.{Refusal}
+use Rattle.answers.specs.declared.Refusal.TheVariants.{Text}
+use Rattle.answers.proofs.Numbers.{numbered}
 use Rattle.bits.specs.declared.BitPos.{BitPos}
-use Rattle.writer.specs.declared.ChannelWrite.{ChannelWrite}
-use Rattle.writer.specs.declared.ChannelWrite.TheVariants.{Done}
 use Rattle.bits.proofs.Laws.{bits_of_append, length_bits_of, length_with, splice_read}
 use Rattle.planner.specs.Fit.{plan_cause}
-use Rattle.planner.specs.Planning.{planned, total_of}
+use Rattle.planner.specs.Planning.{cause_of, planned, plan_answered, total_of}
 use Rattle.planner.proofs.Answer.{refusal_is, cause_most, plan_cause_fit, fits_few}
 use Rattle.planner.specs.declared.Plan.{Plan}
-use Rattle.planner.specs.declared.Planned.{Planned}
 use Rattle.writer.specs.Written.{field_of, channel_write, channel_written}
-use Rattle.writer.proofs.Planned.{within, fits, field_long as long-field, few_bits as bits_few, is_written as field-written}
+use Rattle.writer.proofs.Planned.{no_cause as cause-none, within, fits, field_long as long-field, few_bits as bits_few, is_written as field-written}
 use Rattle.plantext.specs.PlanText.{plan_text, refused_text}
 use Rattle.plantext.proofs.Printing.{plan_text_fits, refused_text_fits, plan_no_refusal, digit_not_13, refused_sample}
 use Rattle.pages.specs.Pages.{pages_length, pages_text}
 use Rattle.pages.specs.Printing.{pages_cause, pages_print, pages_printed}
-use Rattle.pages.proofs.Call.{value_not_refused, pages_long}
+use Rattle.pages.proofs.Call.{pages_long}
 use Rattle.pages.proofs.Printed.{pages_most}
 use Rattle.desktext.specs.Printed.{component_of}
 use Rattle.desktext.specs.Channel.{TextChannel, channel, none, channel_in, text_answer, row_after, vectors_after}
-use Rattle.desktext.specs.Work.{Given}
-use Rattle.desktext.specs.Desk.{field_bytes, view_of, plan_answer, channel_answer, desk_answer}
+use Rattle.desktext.specs.Work.{Given, Prints}
+use Rattle.desktext.specs.Desk.{field_bytes, view_of, plan_or_refusal, plan_answer, channel_answer, desk_answer}
 use Rattle.desktext.specs.declared.View.{View}
 use Rattle.desktext.specs.declared.View.TheVariants.{WithField, OnPages}
-use Rattle.desktext.specs.declared.DeskText.{DeskText}
+use Rattle.desktext.specs.declared.Shape.{Shape}
 use Rattle.desktext.proofs.Texts.{text_read}
 
 -- ---- the first bytes of a buffer
@@ -71,29 +72,30 @@ zeros_front k n f h u =
     let r : s ++ t ≡ replicate k 0 = replicate-append-replicate n (k - n) 0 ∙ ap (λ (m : ℕ). replicate {A = ℕ} m 0) e in
     ap (λ (z : List ℕ). take n (bytes_with z 0 f)) (sym r) ∙ ap (λ (m : ℕ). take m (bytes_with (s ++ t) 0 f)) (sym l) ∙ with_front s t f (omega arith)
 
+-- a value is no refusal
+ok_not_err : {A : Type 0} (a : A) (k : Refusal) → ◌≡◌ {A = Result A Refusal} (Ok a) (Err k) → ⊥
+ok_not_err a k e = let z : ◌≡◌ {A = ℕ} 0 (number k) = ap answer_number e in let n = numbered k in omega arith
+
 -- ---- the planner's answer
-module _ (v : View) (row : List ℕ) (start end : ℕ) (x : List Float) (r : Planned) (is : r ≡ planned row start end x) where
-  pub plan_refused : (r.refusal ≡ 0 → ⊥) → refused_text r.refusal ≡ plan_answer v row start end x
+module _ (v : View) (row : List ℕ) (start end : ℕ) (x : List Float) where
+  pub plan_refused : (k : Refusal) → planned row start end x ≡ Err k → refused_text (number k) ≡ plan_answer v row start end x
   unfolding plan_answer
-  plan_refused n = rw (sym is, ne_eqb r.refusal 0 n)
+  plan_refused k e = rw e refl
 
-  pub plan_shown : r.refusal ≡ 0 → view_of v r.plan row start end x ≡ plan_answer v row start end x
+  pub plan_shown : (p : Plan) → Given p row start end x → view_of v p row start end x ≡ plan_answer v row start end x
   unfolding plan_answer
-  plan_shown z = rw (sym is, z)
-
-  pub is_given : r.refusal ≡ 0 → Given r.plan row start end x
-  is_given z = record { no_refusal = ap (λ (q : Planned). q.refusal) (sym is) ∙ z; plan_is = ap (λ (q : Planned). q.plan) is }
+  plan_shown p e = rw e refl
 
 -- ---- its plan
 module _ (p : Plan) (row : List ℕ) (start end : ℕ) (x : List Float) (given : Given p row start end x) where
-  abbrev is : p ≡ (planned row start end x).plan
-  is = given.plan_is
+  abbrev is : p ≡ plan_answered row start end x
+  is = sym (ap (value_or _) given)
 
-  abbrev planned_given : (planned row start end x).refusal ≡ 0
-  planned_given = given.no_refusal
+  abbrev planned_given : answer_number (planned row start end x) ≡ 0
+  planned_given = ap answer_number given
 
   pub few_gains : p.count ≤ 256
-  few_gains = rw is (fits_few (planned row start end x).plan row start end x (within row start end x planned_given) (fits row start end x planned_given))
+  few_gains = rw is (fits_few (plan_answered row start end x) row start end x (within row start end x planned_given) (fits row start end x planned_given))
 
   -- ---- its field
   field_long : length (field_of p row start end x) ≡ total_of p
@@ -107,17 +109,14 @@ module _ (p : Plan) (row : List ℕ) (start end : ℕ) (x : List Float) (given :
     long : length room ≡ 8192
     long = ap length zeros ∙ length-replicate {A = ℕ} 8192 0
 
-    is_written : (channel_write p row start end x room 0 ≡ Done (pos_of (0 + total_of p))) × (channel_written p row start end x room 0 ≡ bytes_with room 0 (field_of p row start end x))
+    is_written : (channel_write p row start end x room 0 ≡ Ok (pos_of (0 + total_of p))) × (channel_written p row start end x room 0 ≡ bytes_with room 0 (field_of p row start end x))
     is_written =
         let f = bits_few row start end x planned_given in
         let l = long in
         rw is (field-written row start end x planned_given room 0 (omega arith))
 
-    pub never_refused : (w : ChannelWrite) (k : ℕ) → w ≡ channel_write p row start end x room 0 → w ≡ ChannelWrite.Refused k → ⊥
-    never_refused w k e f = no_write (pos_of (0 + total_of p)) k (sym is_written.0 ∙ sym e ∙ f)
-      where
-        no_write : (q : BitPos) (k : ℕ) → Done q ≡ ChannelWrite.Refused k → ⊥
-        no_write q k e = let z : ◌≡◌ {A = ℕ} 0 1 = cc in omega arith
+    pub never_refused : (w : Result BitPos Refusal) (k : Refusal) → w ≡ channel_write p row start end x room 0 → w ≡ Err k → ⊥
+    never_refused w k e f = ok_not_err (pos_of (0 + total_of p)) k (sym is_written.0 ∙ sym e ∙ f)
 
     module _ (after : List ℕ) (put : after ≡ channel_written p row start end x room 0) where
       pub bytes_fit : (total_of p + 7) / 8 ≤ length after
@@ -138,27 +137,20 @@ module _ (p : Plan) (row : List ℕ) (start end : ℕ) (x : List Float) (given :
           rw b
 
   -- ---- its pages: the output holds them
-  no_cause : plan_cause p row start end x ≡ 0
-  no_cause = rw is (sym (plan_cause_fit (planned row start end x).plan row start end x true (sym (refusal_is row start end x) ∙ planned_given) (sym (fits row start end x planned_given))))
+  no_cause : plan_cause p row start end x ≡ None
+  no_cause = rw is (plan_cause_fit (plan_answered row start end x) row start end x true (cause-none row start end x planned_given) (sym (fits row start end x planned_given)))
 
   pub few_pages : pages_length start end ≤ 6500
   few_pages = pages_most p row start end x no_cause
 
   module _ (out : List ℕ) (long : 32768 ≤ length out) where
-    is_printed : (pages_print p row start end x out ≡ SizeResult.Value (pages_length start end)) × (pages_printed p row start end x out ≡ splice out 0 (pages_text p row start end x))
+    is_printed : (pages_print p row start end x out ≡ Ok (pages_length start end)) × (pages_printed p row start end x out ≡ splice out 0 (pages_text p row start end x))
     unfolding pages_print pages_printed pages_cause
     is_printed = let m = few_pages in rw (no_cause, le-leb (pages_length start end) (length out) (omega arith)) (refl, refl)
 
-    pub pages_never_refused : (w : SizeResult) (k : ℕ) → w ≡ pages_print p row start end x out → w ≡ SizeResult.Refused k → ⊥
-    pages_never_refused w k e f = value_not_refused (pages_length start end) k (sym is_printed.0 ∙ sym e ∙ f)
-
-    pub pages_given : (w : SizeResult) (n : ℕ) (after : List ℕ) → w ≡ pages_print p row start end x out → w ≡ SizeResult.Value n → after ≡ pages_printed p row start end x out
-        → (n ≡ length (view_of OnPages p row start end x)) × (after ≡ splice out 0 (view_of OnPages p row start end x))
-    pages_given w n after e f g =
-        let i = is_printed in
-        let z : SizeResult.Value n ≡ SizeResult.Value (pages_length start end) = sym f ∙ e ∙ i.0 in
-        let k : n ≡ pages_length start end = cc in
-        (k ∙ sym (pages_long p row start end x), g ∙ i.1)
+    pub pages_given : (r : Result ℕ Refusal) (after : List ℕ) → r ≡ pages_print p row start end x out → after ≡ pages_printed p row start end x out
+        → Prints (view_of OnPages p row start end x) out after r
+    pages_given r after e g = let i = is_printed in rw (e ∙ i.0) (sym (pages_long p row start end x), g ∙ i.1)
 
 -- ---- it is never (refused 13), and it fits the output
 module _ (row : List ℕ) (start end : ℕ) (x : List Float) where
@@ -171,74 +163,69 @@ module _ (row : List ℕ) (start end : ℕ) (x : List Float) where
 
   pub plan_never_13 : (v : View) → plan_answer v row start end x ≡ refused_text 13 → ⊥
   unfolding plan_answer
-  plan_never_13 v e = go (eqb (planned row start end x).refusal 0) e
+  plan_never_13 v e = go (planned row start end x) refl e
     where
-      p : Plan
-      p = (planned row start end x).plan
+      go : (r : Result Plan Refusal) → planned row start end x ≡ r → plan_or_refusal (λ p. view_of v p row start end x) r ≡ refused_text 13 → ⊥
+      go (Ok p) g f = view_no_refusal v p f
+      go (Err k) g f =
+          let n : number k ≡ cause_number (cause_of row start end x) = sym (ap answer_number g) ∙ refusal_is row start end x in
+          digit_not_13 (number k) (omega (arith, cause_most row start end x)) f
 
-      few : (planned row start end x).refusal < 10
-      few = let h = cause_most row start end x in omega (arith, refusal_is row start end x)
-
-      go : (b : Bool) → cond b (view_of v p row start end x) (refused_text (planned row start end x).refusal) ≡ refused_text 13 → ⊥
-      go true f = view_no_refusal v p f
-      go false f = digit_not_13 _ few f
-
-  view_fits : (v : View) → (planned row start end x).refusal ≡ 0 → length (view_of v (planned row start end x).plan row start end x) ≤ 32768
-  view_fits WithField g =
-      let p = (planned row start end x).plan in
+  view_fits : (v : View) (p : Plan) → Given p row start end x → length (view_of v p row start end x) ≤ 32768
+  view_fits WithField p g =
       let bs = field_of p row start end x in
-      let n = few_gains (planned row start end x).plan row start end x (record { no_refusal = g; plan_is = refl }) in
-      let m = few_bits (planned row start end x).plan row start end x (record { no_refusal = g; plan_is = refl }) in
-      let l = field_long (planned row start end x).plan row start end x (record { no_refusal = g; plan_is = refl }) in
+      let n = few_gains p row start end x g in
+      let m = few_bits p row start end x g in
+      let l = field_long p row start end x g in
       let t = min-le_left p.count (length p.gains) in
       let w : length (field_bytes bs) ≡ (length bs + 7) / 8 = length_with (replicate ((length bs + 7) / 8) 0) 0 bs ∙ length-replicate _ 0 in
       let h = plan_text_fits p (field_bytes bs) in
       omega (arith, length-take p.count p.gains)
-  view_fits OnPages g =
-      let m = few_pages (planned row start end x).plan row start end x (record { no_refusal = g; plan_is = refl }) in
-      let l = pages_long (planned row start end x).plan row start end x in
+  view_fits OnPages p g =
+      let m = few_pages p row start end x g in
+      let l = pages_long p row start end x in
       omega arith
 
   pub plan_fits_lem : (v : View) → length (plan_answer v row start end x) ≤ 32768
   unfolding plan_answer
-  plan_fits_lem v = go (eqb (planned row start end x).refusal 0) refl
+  plan_fits_lem v = go (planned row start end x) refl
     where
-      go : (b : Bool) → eqb (planned row start end x).refusal 0 ≡ b → length (cond b (view_of v (planned row start end x).plan row start end x) (refused_text (planned row start end x).refusal)) ≤ 32768
-      go true f = view_fits v (eqb-true (planned row start end x).refusal 0 f)
-      go false f = let h = refused_text_fits (planned row start end x).refusal in omega arith
+      go : (r : Result Plan Refusal) → planned row start end x ≡ r → length (plan_or_refusal (λ p. view_of v p row start end x) r) ≤ 32768
+      go (Ok p) g = view_fits v p g
+      go (Err k) g = let h = refused_text_fits (number k) in omega arith
 
 -- ---- the channel of a text
-module _ (v : View) (s : List ℕ) (r : DeskText) (is : r ≡ text_answer (channel_in s)) where
-  pub text_none : (k : ℕ) → r ≡ DeskText.Refused k → refused_text k ≡ desk_answer v s
+module _ (v : View) (s : List ℕ) (r : Result Shape Refusal) (is : r ≡ text_answer (channel_in s)) where
+  pub text_none : (k : Refusal) → r ≡ Err k → refused_text (number k) ≡ desk_answer v s
   unfolding desk_answer
   text_none k e = go (channel_in s) (sym e ∙ is)
     where
-      go : (c : TextChannel) → DeskText.Refused k ≡ text_answer c → refused_text k ≡ channel_answer v c
-      go none f = let z : k ≡ 13 = cc in ap refused_text z
-      go (channel a b row vs) f = absurd (let z : ◌≡◌ {A = ℕ} 0 1 = cc in omega arith)
+      go : (c : TextChannel) → Err k ≡ text_answer c → refused_text (number k) ≡ channel_answer v c
+      go none f = ap refused_text (ap answer_number f)
+      go (channel a b row vs) f = absurd (ok_not_err _ k (sym f))
 
   -- its row and vectors stand at the front of the outputs
-  module _ (a b n : ℕ) (e : r ≡ DeskText.Channel a b n) where
-    pub few_numbers : n ≤ 256
+  module _ (p : Shape) (e : r ≡ Ok p) where
+    pub few_numbers : p.count ≤ 256
     few_numbers = go (channel_in s) refl (sym e ∙ is)
       where
-        go : (c : TextChannel) → channel_in s ≡ c → DeskText.Channel a b n ≡ text_answer c → n ≤ 256
-        go none g f = absurd (let z : ◌≡◌ {A = ℕ} 0 1 = cc in omega arith)
-        go (channel i j row vs) g f = let z : n ≡ length row = cc in le_trans (le_of_eq z) ((text_read s i j row vs).1 g).allowed.few
+        go : (c : TextChannel) → channel_in s ≡ c → Ok p ≡ text_answer c → p.count ≤ 256
+        go none g f = absurd (ok_not_err p Text f)
+        go (channel i j row vs) g f = let z : p.count ≡ length row = cc in le_trans (le_of_eq z) ((text_read s i j row vs).1 g).allowed.few
 
     pub text_channel : (out row : List ℕ) (xs x : List Float) → row ≡ row_after (channel_in s) out → x ≡ vectors_after (channel_in s) xs
-        → plan_answer v (take n row) a b (take (6 * n) x) ≡ desk_answer v s
+        → plan_answer v (take p.count row) p.start p.end (take (6 * p.count) x) ≡ desk_answer v s
     unfolding desk_answer
     text_channel out row xs x er ex = go (channel_in s) refl (sym e ∙ is) er ex
       where
-        go : (c : TextChannel) → channel_in s ≡ c → DeskText.Channel a b n ≡ text_answer c → row ≡ row_after c out → x ≡ vectors_after c xs
-            → plan_answer v (take n row) a b (take (6 * n) x) ≡ channel_answer v c
-        go none g f er ex = absurd (let z : ◌≡◌ {A = ℕ} 0 1 = cc in omega arith)
+        go : (c : TextChannel) → channel_in s ≡ c → Ok p ≡ text_answer c → row ≡ row_after c out → x ≡ vectors_after c xs
+            → plan_answer v (take p.count row) p.start p.end (take (6 * p.count) x) ≡ channel_answer v c
+        go none g f er ex = absurd (ok_not_err p Text f)
         go (channel i j hs vs) g f er ex =
-            let za : a ≡ i = cc in
-            let zb : b ≡ j = cc in
-            let zn : n ≡ length hs = cc in
+            let za : p.start ≡ i = cc in
+            let zb : p.end ≡ j = cc in
+            let zn : p.count ≡ length hs = cc in
             let l : length (map component_of vs) ≡ 6 * length hs = length-map vs component_of ∙ ((text_read s i j hs vs).1 g).allowed.six in
-            let u : take n row ≡ hs = rw (er, zn) (splice_read out hs 0 (omega arith)) in
-            let w : take (6 * n) x ≡ map component_of vs = rw (ex, zn, sym l) (splice_read xs (map component_of vs) 0 (omega arith)) in
+            let u : take p.count row ≡ hs = rw (er, zn) (splice_read out hs 0 (omega arith)) in
+            let w : take (6 * p.count) x ≡ map component_of vs = rw (ex, zn, sym l) (splice_read xs (map component_of vs) 0 (omega arith)) in
             rw (u, w, za, zb)

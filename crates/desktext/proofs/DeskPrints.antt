@@ -12,15 +12,17 @@ use native.Mathlib.Omega.{arith}
 use lib.Ieee.{Float}
 use lib.Dec.{eqb, lit≤}
 use lib.ListN.{length, get_or, take}
-use borrow.Author.Tests.{ne_eqb}
-use Rattle.answers.specs.Causes as cause
+use Rattle.std.specs.Prelude.{None, Some}
+use Rattle.answers.specs.Causes.{number}
+use Rattle.answers.specs.declared.Refusal.{Refusal}
+use Rattle.answers.specs.declared.Refusal.TheVariants.{Component}
 use Rattle.bits.specs.Bits.{splice}
 use Rattle.bits.proofs.Laws.{splice_read}
 use Rattle.levels.specs.Component.{largest_size, some_too_large}
 use Rattle.levels.proofs.Wider.{all_wider, some_part}
 use Rattle.channel.proofs.Over.{none_over}
 use Rattle.planner.specs.Planning.{beyond_at, too_large_at, cause_of, plan_of}
-use Rattle.planner.proofs.Answer.{cause_five, planned_good, refusal_is}
+use Rattle.planner.proofs.Answer.{cause_five, planned_good, planned_refused}
 use Rattle.plantext.specs.PlanText.{refused_text}
 use Rattle.plantext.proofs.Printing.{refused_text_fits, sample_text}
 use Rattle.desktext.specs.Printed.{IsText, component_of}
@@ -44,16 +46,16 @@ module _ (v : View) (a b : ℕ) (row vs s : List ℕ) (t : IsText a b row vs s) 
   abbrev x : List Float
   x = map component_of vs
 
-  pub desk_plan_lem : cause_of row a b x ≡ 0 → desk_answer v s ≡ view_of v (plan_of row x a b) row a b x
+  pub desk_plan_lem : cause_of row a b x ≡ None → desk_answer v s ≡ view_of v (plan_of row x a b) row a b x
   unfolding plan_answer
   desk_plan_lem h = desk_plans v a b row vs s t ∙ rw (sym (planned_good row a b x (plan_of row x a b) refl h))
 
-  pub desk_cause : (cause_of row a b x ≡ 0 → ⊥) → desk_answer v s ≡ refused_text (cause_of row a b x)
+  pub desk_cause : (k : Refusal) → cause_of row a b x ≡ Some k → desk_answer v s ≡ refused_text (number k)
   unfolding plan_answer
-  desk_cause n = desk_plans v a b row vs s t ∙ rw (refusal_is row a b x, ne_eqb (cause_of row a b x) 0 n)
+  desk_cause k e = desk_plans v a b row vs s t ∙ rw (sym (planned_refused row a b x k e))
 
   -- and 5 is never met: no component of a text is above 512 in size
-  pub desk_never_5 : cause_of row a b x ≡ cause.component → ⊥
+  pub desk_never_5 : cause_of row a b x ≡ Some Component → ⊥
   unfolding beyond_at
   desk_never_5 e =
       let fine : some_too_large x ≡ false = all_wider 512 largest_size (lit≤ tt) x (components_most vs t.allowed.numbers) in

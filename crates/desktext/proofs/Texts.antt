@@ -8,11 +8,15 @@ use native.Mathlib.Omega.{arith}
 use lib.ListN.{length, take, drop}
 use lib.Dec.{leb}
 use borrow.Author.Tests.{le-leb, lt-leb, ne_eqb, leb-true}
+use Rattle.std.specs.Prelude.{Result, Ok, Err}
+use Rattle.answers.specs.declared.Refusal.{Refusal}
+use Rattle.answers.specs.declared.Refusal.TheVariants.{Text}
+use Rattle.answers.specs.Answers.{answer_number}
 use Rattle.desktext.specs.Spelling.{largest, last_number, channel_token, bins_token, row_token, close_token, TextOf, nested}
 use Rattle.desktext.specs.Printed.{IsText, AllIn, form, vector_forms, channel_tokens, InLimits}
 use Rattle.desktext.specs.Text.{ReadText, got, malformed, tokens}
 use Rattle.desktext.specs.Channel.{TextChannel, text_answer, channel, none, channel_in, on_got}
-use Rattle.desktext.specs.declared.DeskText.{DeskText}
+use Rattle.desktext.specs.declared.Shape.{Shape}
 use Rattle.desktext.proofs.Spelt.{tokens_spelt}
 use Rattle.desktext.proofs.Back.{tokens_back}
 use Rattle.desktext.proofs.ChannelTokens.{all_take, all_drop, row_all, channel_back, channel_sole, no_channel_lem}
@@ -73,12 +77,12 @@ pub text_read : (s : List ℕ) (a b : ℕ) (row vs : List ℕ) → IsText a b ro
 text_read s a b row vs = (reads_back a b row vs s, reads_sole a b row vs s)
 
 -- just a text of no channel is refused with 13
-pub text_refused : (s : List ℕ) → ((a b : ℕ) (row vs : List ℕ) → IsText a b row vs s → ⊥) ↔ (text_answer (channel_in s) ≡ DeskText.Refused 13)
-text_refused s = (λ n. ap text_answer (unread (channel_in s) refl n), λ e a b row vs x. no_answer a b (length row) (ap text_answer (sym (reads_back a b row vs s x)) ∙ e))
+pub text_refused : (s : List ℕ) → ((a b : ℕ) (row vs : List ℕ) → IsText a b row vs s → ⊥) ↔ (text_answer (channel_in s) ≡ Err Text)
+text_refused s = (λ n. ap text_answer (unread (channel_in s) refl n), λ e a b row vs x. no_answer _ (ap text_answer (sym (reads_back a b row vs s x)) ∙ e))
   where
     unread : (c : TextChannel) → channel_in s ≡ c → ((a b : ℕ) (row vs : List ℕ) → IsText a b row vs s → ⊥) → channel_in s ≡ none
     unread none e n = e
     unread (channel a b row vs) e n = absurd (n a b row vs (reads_sole a b row vs s e))
 
-    no_answer : (a b n : ℕ) → DeskText.Channel a b n ≡ DeskText.Refused 13 → ⊥
-    no_answer a b n e = let z : ◌≡◌ {A = ℕ} 0 1 = cc in omega arith
+    no_answer : (p : Shape) → ◌≡◌ {A = Result Shape Refusal} (Ok p) (Err Text) → ⊥
+    no_answer p e = let z : ◌≡◌ {A = ℕ} 0 13 = ap answer_number e in omega arith

@@ -1,12 +1,13 @@
 -- A list of tokens read as a channel, and what read_text answers. docs/FORMAT.md, Desk text and cause 13.
 -- The rules are those of specs/Printed.antt: law `text_read`.
-use Rattle.std.specs.Prelude.{ℕ, zero, suc, ◌+◌, ◌-◌, List, [], ◌∷◌, ◌++◌, map, Bool, false, cond, length, get_or, leb, eqb, Float}
+use Rattle.std.specs.Prelude.{ℕ, zero, suc, ◌+◌, ◌-◌, List, [], ◌∷◌, ◌++◌, map, Bool, false, cond, length, get_or, leb, eqb, Float, Result, Ok, Err}
+use Rattle.answers.specs.declared.Refusal.{Refusal}
+use Rattle.answers.specs.declared.Refusal.TheVariants.{Text}
 use Rattle.bits.specs.Bits.{splice}
 use Rattle.desktext.specs.Spelling.{largest, last_number, channel_token, bins_token, row_token, vector_token, close_token}
 use Rattle.desktext.specs.Printed.{component_of}
 use Rattle.desktext.specs.Text.{ReadText, got, malformed, tokens}
-use Rattle.desktext.specs.declared.DeskText.{DeskText}
-use Rattle.answers.specs.Causes as cause
+use Rattle.desktext.specs.declared.Shape.{Shape}
 
 -- the numbers of a form, as tokens, and the tokens after its closing bracket
 pub data Part : Type 0 where
@@ -75,9 +76,9 @@ unfoldable pub channel_in : List ℕ → TextChannel
 channel_in text = cond (leb (length text) 65536) (on_got (tokens text)) none
 
 -- what read_text answers: the bins and how many numbers the row has, or 13
-abbrev pub text_answer : TextChannel → DeskText
-text_answer (channel a b row vs) = DeskText.Channel a b (length row)
-text_answer none = DeskText.Refused cause.text
+abbrev pub text_answer : TextChannel → Result Shape Refusal
+text_answer (channel a b row vs) = Ok (record { start = a; end = b; count = length row })
+text_answer none = Err Text
 
 -- what stands in the outputs afterwards: the row and the vectors' components at the front, all else as it was
 abbrev pub row_after : TextChannel → List ℕ → List ℕ

@@ -1,5 +1,9 @@
 -- How the reading goes about it: no meaning of its own. What holds is said by Text, Channel and Desk.
-use Rattle.std.specs.Prelude.{ℕ, zero, suc, ◌+◌, ◌-◌, ◌*◌, ◌≤◌, ◌<◌, ◌≡◌, List, [], ◌++◌, map, Bool, cond, length, take, drop, get_or, Float, Option, Some, None}
+use Rattle.std.specs.Prelude.{ℕ, zero, suc, ◌+◌, ◌-◌, ◌*◌, ◌≤◌, ◌<◌, ◌≡◌, List, [], ◌++◌, map, Bool, cond, length, take, drop, get_or, Float, Option, Some, None, Result, Ok, Err}
+use Rattle.answers.specs.Causes.{number}
+use Rattle.answers.specs.declared.Refusal.{Refusal}
+use Rattle.bits.specs.Bits.{splice}
+use Rattle.plantext.specs.PlanText.{refused_text}
 use Rattle.planner.specs.declared.Plan.{Plan}
 use Rattle.planner.specs.Planning.{planned}
 use Rattle.desktext.specs.Spelling.{largest, last_number}
@@ -97,6 +101,10 @@ pub record Checks (ts : List ℕ) (there : TextChannel) (r : Option Shape) : Typ
 
 -- ---- the answer
 -- the planner gives this plan
-pub record Given (p : Plan) (row : List ℕ) (start end : ℕ) (x : List Float) : Type 0 where
-  pub no_refusal : (planned row start end x).refusal ≡ 0
-  pub plan_is : p ≡ (planned row start end x).plan
+abbrev pub Given : Plan → List ℕ → ℕ → ℕ → List Float → Type 0
+Given p row start end x = planned row start end x ≡ Ok p
+
+-- a text is put at the front of the output and its length answered, or it is a refusal, and nothing is put
+abbrev pub Prints : List ℕ → List ℕ → List ℕ → Result ℕ Refusal → Type 0
+Prints text out after (Ok n) = (n ≡ length text) × (after ≡ splice out 0 text)
+Prints text out after (Err k) = (refused_text (number k) ≡ text) × (after ≡ out)

@@ -6,7 +6,8 @@ ghost use Rattle.desktext.specs.Printed.{component_of};
 ghost use Rattle.desktext.specs.Channel.{numbers, channel_from, text_answer, row_after, vectors_after};
 ghost use Rattle.desktext.specs.Work.{vector_numbers, Holds, Stands, Checks, RowNumbers, VectorsIn};
 
-use super::{BINS, CHANNEL, CLOSE, DeskText, LARGEST, LAST_NUMBER, LAST_ROW, ROW, Shape, VECTOR};
+use super::{BINS, CHANNEL, CLOSE, LARGEST, LAST_NUMBER, LAST_ROW, ROW, Shape, VECTOR};
+use answers::Refusal;
 
 // How many numbers a vector has.
 const COMPONENTS: usize = 6;
@@ -101,17 +102,15 @@ fn put_vectors(tokens: &[u32], at: usize, n: usize, vectors: &mut [f32])
 }
 
 // A channel's tokens: its row and vectors are put at the front of the outputs, and nothing where it is refused.
-pub fn read_tokens(tokens: &[u32], row: &mut [u8], vectors: &mut [f32]) -> DeskText
+pub fn read_tokens(tokens: &[u32], row: &mut [u8], vectors: &mut [f32]) -> Result<Shape, Refusal>
     requires { (256 ≤ length row.old) × (1536 ≤ length vectors.old) }
     ensures value { result ≡ text_answer (channel_from tokens.now) }
     ensures row_after { row.new ≡ row_after (channel_from tokens.now) row.old }
     ensures vectors_after { vectors.new ≡ vectors_after (channel_from tokens.now) vectors.old }
 {
-    let Some(shape) = check_tokens(tokens) else {
-        return DeskText::Refused(answers::TEXT);
-    };
+    let shape = check_tokens(tokens).ok_or(Refusal::Text)?;
     let n = shape.count;
     put_row(tokens, n, row);
     put_vectors(tokens, n + 7, n, vectors);
-    DeskText::Channel(shape.start, shape.end, n)
+    Ok(shape)
 }

@@ -5,31 +5,23 @@ ghost use Rattle.std.specs.Prelude.{◌≤◌, ◌*◌, ◌≡◌, length, take,
 ghost use Rattle.bits.specs.Bits.{splice};
 ghost use Rattle.desktext.specs.Channel.{channel_in, text_answer, row_after, vectors_after};
 ghost use Rattle.desktext.specs.Desk.{view_of, plan_answer, desk_answer};
-ghost use Rattle.desktext.specs.Work.{longest, Given};
-ghost use Rattle.desktext.specs.declared.View.TheVariants.{WithField, OnPages};
+ghost use Rattle.desktext.specs.Work.{longest, Given, Prints};
+ghost use Rattle.desktext.specs.declared.View.TheVariants.{WithField};
 
-use answers::SizeResult;
+use answers::Refusal;
 use bits::BitPos;
 use planner::Plan;
-use writer::ChannelWrite;
 
 mod channels;
 mod numbers;
 mod tokens;
 
-// What a channel's tokens hold beside its row and vectors: start and end of its bins and how many numbers the row has.
+// What a channel's text holds beside its row and vectors: start and end of its bins and how many numbers the row has.
 #[derive(Clone, Copy)]
 pub struct Shape {
     pub start: u32,
     pub end: u32,
     pub count: usize,
-}
-
-// What a desk text holds: start and end of its bins and how many numbers the row has, or the refusal's number.
-#[derive(Clone, Copy)]
-pub enum DeskText {
-    Channel(u32, u32, usize),
-    Refused(u8),
 }
 
 // How a plan is printed: with its field, or on pages.
@@ -60,33 +52,40 @@ const CLOSE: u32 = 33554437;
 const LONGEST: usize = 23121;
 
 // A channel's text, with room to work in.
-fn read_with(text: &[u8], row: &mut [u8], vectors: &mut [f32], work: &mut [u32]) -> DeskText
+fn read_with(
+    text: &[u8],
+    row: &mut [u8],
+    vectors: &mut [f32],
+    work: &mut [u32],
+) -> Result<Shape, Refusal>
     requires { (256 ≤ length row.old) × (1536 ≤ length vectors.old) × (longest ≤ length work.old) }
     ensures value { result ≡ text_answer (channel_in text.now) }
     ensures row_after { row.new ≡ row_after (channel_in text.now) row.old }
     ensures vectors_after { vectors.new ≡ vectors_after (channel_in text.now) vectors.old }
 {
     if LONGEST < text.len() {
-        return DeskText::Refused(answers::TEXT);
+        return Err(Refusal::Text);
     }
-    let Some(n) = tokens::tokens_in(text, &mut *work) else {
-        return DeskText::Refused(answers::TEXT);
-    };
+    let n = tokens::tokens_in(text, work).ok_or(Refusal::Text)?;
     channels::read_tokens(&work[..n], row, vectors)
 }
 
 // The channel of a text: its row and vectors go to the front of the outputs. A malformed text is refused with 13,
 // and the outputs stay as they were.
-pub fn read_text(text: &[u8], row: &mut [u8; 256], vectors: &mut [f32; 1536]) -> DeskText
+pub fn read_text(
+    text: &[u8],
+    row: &mut [u8; 256],
+    vectors: &mut [f32; 1536],
+) -> Result<Shape, Refusal>
     ensures value { result ≡ text_answer (channel_in text.now) }
     ensures row_after { row.new ≡ row_after (channel_in text.now) row.old }
     ensures vectors_after { vectors.new ≡ vectors_after (channel_in text.now) vectors.old }
 {
     let mut work = [0u32; LONGEST];
-    read_with(text, &mut *row, &mut *vectors, &mut work)
+    read_with(text, row, vectors, &mut work)
 }
 
-// The planner's plan with its field goes to the front of the output as text. Returns how many bytes that is.
+// The planner's plan with its field goes to the front of the output as text: how many bytes that is.
 fn print_with_field(
     out: &mut [u8],
     plan: Plan,
@@ -95,46 +94,19 @@ fn print_with_field(
     end: usize,
     x: &[f32],
     field: &mut [u8],
-) -> usize
+) -> Result<usize, Refusal>
     requires in_bounds { 32768 ≤ length out.old }
     requires field_value { field.old ≡ replicate 8192 0 }
     requires given { Given plan row.now start end x.now }
-    ensures value { result ≡ length (view_of WithField plan row.now start end x.now) }
-    ensures out_after { out.new ≡ splice out.old 0 (view_of WithField plan row.now start end x.now) }
+    ensures { Prints (view_of WithField plan row.now start end x.now) out.old out.new result }
 {
     let p = BitPos { byte: 0, bit: 0 };
-    let w = writer::write_aht_channel(plan, row, start, end, x, &mut *field, p);
-    match w {
-        ChannelWrite::Refused(k) => plantext::print_refused(out, k),
-        ChannelWrite::Done(_) => {
-            let n = (2 + plan.payload as usize + 7) / 8;
-            plantext::print_plan(out, plan, &field[..n])
-        }
-    }
+    writer::write_aht_channel(plan, row, start, end, x, field, p)?;
+    let n = (2 + plan.payload as usize + 7) / 8;
+    Ok(plantext::print_plan(out, plan, &field[..n]))
 }
 
-// The same on pages.
-fn print_on_pages(
-    out: &mut [u8],
-    plan: Plan,
-    row: &[u8],
-    start: usize,
-    end: usize,
-    x: &[f32],
-) -> usize
-    requires in_bounds { 32768 ≤ length out.old }
-    requires given { Given plan row.now start end x.now }
-    ensures value { result ≡ length (view_of OnPages plan row.now start end x.now) }
-    ensures out_after { out.new ≡ splice out.old 0 (view_of OnPages plan row.now start end x.now) }
-{
-    let printed = pages::print_pages(plan, row, start, end, x, &mut *out);
-    match printed {
-        SizeResult::Refused(k) => plantext::print_refused(out, k),
-        SizeResult::Value(n) => n,
-    }
-}
-
-// The plan of the bins start to end - 1, as it is to be seen, or its refusal.
+// The plan of the bins start to end - 1, as it is to be seen.
 fn print_channel(
     view: View,
     out: &mut [u8],
@@ -143,73 +115,43 @@ fn print_channel(
     end: usize,
     x: &[f32],
     field: &mut [u8],
-) -> usize
+) -> Result<usize, Refusal>
     requires in_bounds { 32768 ≤ length out.old }
     requires field_value { field.old ≡ replicate 8192 0 }
-    ensures value { result ≡ length (plan_answer view row.now start end x.now) }
-    ensures out_after { out.new ≡ splice out.old 0 (plan_answer view row.now start end x.now) }
+    ensures { Prints (plan_answer view row.now start end x.now) out.old out.new result }
 {
-    let planned = planner::plan_aht_channel(row, start, end, x);
-    if planned.refusal != 0 {
-        return plantext::print_refused(out, planned.refusal);
-    }
-    let plan = planned.plan;
+    let plan = planner::plan_aht_channel(row, start, end, x)?;
     match view {
         View::WithField => print_with_field(out, plan, row, start, end, x, field),
-        View::OnPages => print_on_pages(out, plan, row, start, end, x),
+        View::OnPages => pages::print_pages(plan, row, start, end, x, out),
     }
 }
 
-// The same of the first n numbers of a row, with their vectors.
-fn print_front(
-    view: View,
-    out: &mut [u8],
-    row: &[u8],
-    n: usize,
-    start: usize,
-    end: usize,
-    x: &[f32],
-    field: &mut [u8],
-) -> usize
-    requires in_bounds { 32768 ≤ length out.old }
-    requires field_value { field.old ≡ replicate 8192 0 }
-    requires n_in_bounds { (n ≤ length row.now) × (6 * n ≤ length x.now) }
-    ensures value { result ≡ length (plan_answer view (take n row.now) start end (take (6 * n) x.now)) }
-    ensures out_after { out.new ≡ splice out.old 0 (plan_answer view (take n row.now) start end (take (6 * n) x.now)) }
-{
-    print_channel(view, out, &row[..n], start, end, &x[..6 * n], field)
-}
-
-// The desk's answer, with room to work in.
-fn desk_with(
+// The same of the channel that a text holds, with room to work in.
+fn print_text(
     view: View,
     text: &[u8],
     out: &mut [u8],
     row: &mut [u8; 256],
     vectors: &mut [f32; 1536],
     field: &mut [u8],
-) -> usize
+) -> Result<usize, Refusal>
     requires in_bounds { 32768 ≤ length out.old }
     requires field_value { field.old ≡ replicate 8192 0 }
-    ensures value { result ≡ length (desk_answer view text.now) }
-    ensures out_after { out.new ≡ splice out.old 0 (desk_answer view text.now) }
+    ensures { Prints (desk_answer view text.now) out.old out.new result }
 {
-    let t = read_text(text, &mut *row, &mut *vectors);
-    match t {
-        DeskText::Refused(k) => plantext::print_refused(out, k),
-        DeskText::Channel(start, end, n) => {
-            print_front(
-                view,
-                out,
-                &*row,
-                n,
-                start as usize,
-                end as usize,
-                &*vectors,
-                field,
-            )
-        }
-    }
+    let shape = read_text(text, row, vectors)?;
+    let start = shape.start as usize;
+    let end = shape.end as usize;
+    print_channel(
+        view,
+        out,
+        &row[..shape.count],
+        start,
+        end,
+        &vectors[..6 * shape.count],
+        field,
+    )
 }
 
 // The plan of the channel that a text holds, with its field or on pages, or the refusal, goes to the front of the
@@ -221,7 +163,10 @@ pub fn desk(view: View, text: &[u8], out: &mut [u8; 32768]) -> usize
     let mut row = [0u8; 256];
     let mut vectors = [0.0f32; 1536];
     let mut field = [0u8; 8192];
-    desk_with(view, text, &mut *out, &mut row, &mut vectors, &mut field)
+    match print_text(view, text, out, &mut row, &mut vectors, &mut field) {
+        Ok(n) => n,
+        Err(k) => plantext::print_refused(out, k.number()),
+    }
 }
 
 // The same of a text that is the first n bytes of an input, or all of it where it has no more. The answer fits.
@@ -231,7 +176,7 @@ pub fn desk_from(view: View, input: &[u8], n: usize, out: &mut [u8; 32768]) -> u
     ensures upper_bound { result ≤ 32768 }
 {
     if n < input.len() {
-        return desk(view, &input[..n], &mut *out);
+        return desk(view, &input[..n], out);
     }
-    desk(view, input, &mut *out)
+    desk(view, input, out)
 }
