@@ -91,12 +91,7 @@ pub fn check_channel(hebap: &[u8], start: usize, end: usize, x: &[f32]) -> Resul
 }
 
 // The plan of the bins start to end - 1, where hebap is the row and x the vectors. Refuses with 1 to 5.
-pub fn plan_aht_channel(
-    hebap: &[u8],
-    start: usize,
-    end: usize,
-    x: &[f32],
-) -> Result<Plan, Refusal>
+pub fn plan_aht_channel(hebap: &[u8], start: usize, end: usize, x: &[f32]) -> Result<Plan, Refusal>
     ensures { result ≡ planned hebap.now start end x.now }
 {
     check_channel(hebap, start, end, x)?;
@@ -141,13 +136,7 @@ fn plan_fits(p: Plan, hebap: &[u8], start: usize, end: usize, x: &[f32]) -> bool
 }
 
 // Refuses with the lowest of causes 1 to 6 that holds.
-pub fn check_plan(
-    p: Plan,
-    hebap: &[u8],
-    start: usize,
-    end: usize,
-    x: &[f32],
-) -> Result<(), Refusal>
+pub fn check_plan(p: Plan, hebap: &[u8], start: usize, end: usize, x: &[f32]) -> Result<(), Refusal>
     ensures { result ≡ answered (plan_cause p hebap.now start end x.now) tt }
 {
     check_channel(hebap, start, end, x)?;

@@ -4,10 +4,9 @@ use mathlib.Core.Path.{◌≡◌, refl, sym, ap, ◌∙◌}
 use mathlib.Core.List.{List}
 use mathlib.Core.Bool.{Bool, true, false, ◌||◌}
 use mathlib.Core.Logic.{◌⊎◌, inl, inr, ◌↔◌}
-use native.Mathlib.Nat.{pos_of_ne-zero}
 use native.Mathlib.Omega.{arith}
-use borrow.Author.Tests.{eqb-true, eqb-false, le-ltb, leb-true, leb-false}
-use lib.Dec.{eqb, ltb, leb}
+use borrow.Author.Tests.{le-ltb, leb-true, leb-false}
+use lib.Dec.{ltb, leb}
 use lib.ListN.{length}
 use Rattle.answers.specs.declared.Refusal.TheVariants.{InputEnds, GroupWord, UnusedCode}
 use Rattle.answers.specs.declared.Refusal.{Refusal}

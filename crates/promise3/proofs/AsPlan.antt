@@ -16,7 +16,7 @@ use Rattle.channel.specs.Row.{active_count, six_of}
 use Rattle.channel.proofs.Over.{sum_none, sum_next}
 use Rattle.planner.specs.Cost.{bin_bits}
 use Rattle.planner.specs.Choice.{cheapest, least_up_to, best_gain, least_at, least_of, plan_mode, gains_over, plan_gains, plan_payload}
-use Rattle.planner.specs.Planning.{plan_of, planned, plan_answered}
+use Rattle.planner.specs.Planning.{plan_of, plan_answered}
 use Rattle.planner.proofs.Answer.{answer_plan}
 use Rattle.planner.proofs.Codes.{bin_scalar, bin_most}
 use Rattle.planner.proofs.Optimal.{cheapest_same, gains_step, gains_stay, gains_none, gains_length, first_least}

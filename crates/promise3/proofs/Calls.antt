@@ -2,12 +2,8 @@
 use Prim.Native.Nat.{ℕ, ◌+◌, ◌-◌, ◌*◌, ◌≤◌, ◌<◌}
 use mathlib.Core.Path.{◌≡◌, refl, sym, ap, ◌∙◌}
 use mathlib.Core.List.{List}
-use mathlib.Core.Bool.{Bool, true, false, cond}
-use mathlib.Core.Logic.{inl, inr}
-use native.Mathlib.Nat.{pos_of_ne-zero}
+use mathlib.Core.Bool.{Bool}
 use native.Mathlib.Omega.{arith}
-use borrow.Author.Tests.{eqb-false}
-use lib.Dec.{eqb, leb}
 use lib.IntN.{pos}
 use lib.Ieee.{nan}
 use lib.ListN.{length, drop, get_or, length-drop}
@@ -26,8 +22,7 @@ use Rattle.channel.proofs.Laws.{lenient_laws, field_lawful}
 use Rattle.channel.proofs.Parts.{Parts, parts}
 use Rattle.channel.proofs.Shown.{values_long, exacts_long, indices_long, values_at, exacts_at_lem, index_at}
 use Rattle.channel.proofs.Fields.{field_used}
-use Rattle.channel.proofs.Refusals.{FieldWhy, field_why}
-use Rattle.reader.specs.Reading.{Call, read_cause, found, answer_to, values_after, exact_after, indices_after, read_answer, with_shown, channel_answered}
+use Rattle.reader.specs.Reading.{Call, found, answer_to, values_after, exact_after, indices_after, read_answer, with_shown, channel_answered}
 use Rattle.reader.proofs.Causes.{FoundAt, found_got}
 use Rattle.promise3.proofs.Places.{one_place, six_place, padded}
 

@@ -10,7 +10,7 @@ use Rattle.channel.specs.Shown.{field_at}
 use Rattle.books.specs.Books.{vq_search}
 use Rattle.quantiser.specs.Quantise.{picked, quantised, picked_value}
 use Rattle.planner.specs.declared.Plan.{Plan}
-use Rattle.reader.specs.Reading.{Call, answer_to, values_after, exact_after, indices_after, channel_answered}
+use Rattle.reader.specs.Reading.{Call, values_after, exact_after, indices_after, channel_answered}
 
 -- row, bins and vectors are allowed: none of causes 1 to 5 holds of them
 pub record Allowed (row : List ℕ) (start end : ℕ) (x : List Float) : Type 0 where

@@ -1,6 +1,6 @@
 -- quantise_scalar and quantise_bin of the Rust, operation by operation. docs/FORMAT.md, Quantiser; the codes are those
 -- of ATSC A/52 Annex E, 3.4.4.2.
-use Rattle.std.specs.Prelude.{ℕ, suc, ◌+◌, ◌-◌, ◌%◌, ◌^◌, Bool, false, cond, ◌&&◌, ◌||◌, List, [], ◌∷◌, map, replicate, ℤ, pos, negsuc, ◌+ℤ◌, ◌-ℤ◌, neg_ℤ, ◌==◌, from_bits, int_lt, is_nan, nat_le, Float, Result, Ok, Err}
+use Rattle.std.specs.Prelude.{ℕ, suc, ◌+◌, ◌-◌, ◌%◌, ◌^◌, Bool, false, cond, ◌&&◌, ◌||◌, List, [], ◌∷◌, map, ℤ, pos, negsuc, ◌+ℤ◌, ◌-ℤ◌, neg_ℤ, ◌==◌, from_bits, int_lt, is_nan, nat_le, Float, Result, Ok, Err}
 use Rattle.std.specs.Float.{nan, inf, fin, binary32}
 use Rattle.std.specs.Float.Ieee.{add, sub, mul, div, lt, le}
 use Rattle.tables.specs.Tables.{mant_bits}

@@ -12,7 +12,7 @@ use Rattle.bits.specs.declared.BitPos.{BitPos}
 use Rattle.bits.proofs.Laws.{splice_none, splice_more}
 use Rattle.bits.proofs.Lawful.{resume_none, resume_next, resume_stop, resume_done}
 use Rattle.bits.proofs.Reading.{next_is, pos_is}
-use Rattle.std.specs.Prelude.{Result, Ok, Err}
+use Rattle.std.specs.Prelude.{Ok, Err}
 use Rattle.answers.specs.declared.Refusal.{Refusal}
 use Rattle.bits.specs.Format.{move_answer}
 use Rattle.channel.specs.Bins.{over}

@@ -7,7 +7,7 @@ use mathlib.Core.List.{List, map}
 use native.Mathlib.Omega.{arith}
 use lib.IntN.{ℤ}
 use lib.Ieee.{Float}
-use lib.ListN.{length, take, drop, set, replicate}
+use lib.ListN.{length, take, drop, set}
 use Rattle.bits.specs.Bits.{bits_of, number_of, bit_at, pos_of, splice, Inside, read_u32}
 use Rattle.bits.specs.Format.{Got, got, refused, and_then, number, number_in}
 use Rattle.bits.proofs.Laws.{number_take_lt, splice_one}
@@ -19,7 +19,7 @@ use Rattle.levels.specs.declared.Code.{Code}
 use Rattle.levels.specs.Codes.{coded, six}
 use Rattle.levels.specs.Exact.{exact_of}
 use Rattle.levels.specs.Value.{value_of}
-use Rattle.std.specs.Prelude.{Result, Ok, Err}
+use Rattle.std.specs.Prelude.{Result, Ok}
 use Rattle.answers.specs.declared.Refusal.{Refusal}
 use Rattle.bits.specs.declared.BitPos.{BitPos}
 use Rattle.bits.specs.Format.{move_answer}

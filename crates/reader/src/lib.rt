@@ -111,7 +111,9 @@ fn read_with(
         return Err(Refusal::InputEnds);
     }
     let pos = pos.advance(1, 0);
-    read_known(src, pos, hebap, start, end, values, exact, indices, gains, v, e, x)
+    read_known(
+        src, pos, hebap, start, end, values, exact, indices, gains, v, e, x,
+    )
 }
 
 // How many bits lie between two positions.

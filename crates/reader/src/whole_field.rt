@@ -39,7 +39,17 @@ pub fn read_bins(
     for bin in start..end {
         let hebap = row[bin];
         let gk = channel::gain_at(gains, n);
-        p = one_bin::read_bin(src, p, mode, hebap, gk, bin, &mut *values, &mut *exact, &mut *indices)?;
+        p = one_bin::read_bin(
+            src,
+            p,
+            mode,
+            hebap,
+            gk,
+            bin,
+            &mut *values,
+            &mut *exact,
+            &mut *indices,
+        )?;
         n += channel::gains_used(mode, hebap);
     }
     Ok(p)
@@ -71,7 +81,18 @@ pub fn read_behind(
 {
     let n = channel::count_active(row, start, end, mode);
     let next = gain_words::read_gains(src, pos, mode, n, &mut *gains)?;
-    let last = read_bins(src, next, mode, row, start, end, &gains[..n], values, exact, indices)?;
+    let last = read_bins(
+        src,
+        next,
+        mode,
+        row,
+        start,
+        end,
+        &gains[..n],
+        values,
+        exact,
+        indices,
+    )?;
     Ok(FieldEnd {
         mode,
         count: n,
@@ -101,5 +122,7 @@ pub fn read_field(
         (outputs values.new exact.new indices.new) c.items) }
 {
     let (mode, next) = pos.read_u32(src, 2)?;
-    read_behind(src, next, mode as u8, row, start, end, gains, values, exact, indices)
+    read_behind(
+        src, next, mode as u8, row, start, end, gains, values, exact, indices,
+    )
 }

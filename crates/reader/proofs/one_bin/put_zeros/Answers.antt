@@ -1,8 +1,7 @@
 -- `reader::one_bin::put_zeros` meets its contract. Assumes nothing.
 use Prim.Native.Nat.{◌*◌}
-use mathlib.Core.Path.{◌≡◌, sym, ap, ◌∙◌}
+use mathlib.Core.Path.{sym}
 use native.Mathlib.Omega.{arith}
-use lib.ListN.{length}
 use Rattle.bits.proofs.Copying.{part_put}
 use Rattle.bits.proofs.Laws.{splice_one}
 use Rattle.reader.proofs.one_bin.put_zeros.Goals as goal

@@ -1,7 +1,6 @@
 -- `reader::whole_field::read_bins` meets its contract. The invariant is Bins.SoFar, what was read. Assumes nothing.
 use mathlib.Core.Path.{refl, sym, ◌∙◌}
 use native.Mathlib.Omega.{arith}
-use borrow.Author.Rules.{rules}
 use lib.ListN.{get_or, drop}
 use Rattle.bits.specs.Bits.{bits_of, bit_at}
 use Rattle.answers.proofs.Numbers.{passed_on}
