@@ -22,12 +22,6 @@ pub fn pow2(k: u32) -> u32
     1 << k
 }
 
-fn wide(b: u8) -> u32
-    ensures { (result ≡ b) × (result < 256) }
-{
-    b as u32
-}
-
 // How many of the `left` bits still wanted stand in a byte from its bit r on.
 fn step(r: u32, left: u32) -> u32
     requires { (r < 8) × (0 < left) }
@@ -36,7 +30,8 @@ fn step(r: u32, left: u32) -> u32
     if left < 8 - r { left } else { 8 - r }
 }
 
-// The number that n bits show, from the bit r of the byte q on, a byte at a time.
+// The number that n bits show, from the bit r of the byte q on, a byte at a time. A step takes what its byte still has,
+// so no range counts the steps.
 fn by_bytes(src: &[u8], q: usize, r: u32, n: u32) -> u32
     requires { (n ≤ 32) × (r < 8) × (8 * q + r + n ≤ 8 * length src.now) }
     ensures { result ≡ number_of (take n (drop (8 * q + r) (bits_of src.now))) }
@@ -47,7 +42,7 @@ fn by_bytes(src: &[u8], q: usize, r: u32, n: u32) -> u32
     let mut p: u32 = r;
     while i < n {
         let c = step(p, n - i);
-        let x = wide(src[b]);
+        let x = u32::from(src[b]);
         let k = 8 - p - c;
         v = v * pow2(c) + (x >> k) % pow2(c);
         i += c;
@@ -61,7 +56,7 @@ fn byte_at(src: &[u8], q: usize) -> u32
     requires { q < length src.now }
     ensures { (result ≡ get_or src.now q 0) × (result < 256) }
 {
-    wide(src[q])
+    u32::from(src[q])
 }
 
 // Four bytes as one big-endian number.
@@ -105,11 +100,11 @@ fn patched(x: u8, r: u32, c: u32, w: u32) -> u8
     ensures { result ≡ byte_with x r c w }
 {
     let k = 8 - r - c;
-    let o = wide(x);
+    let o = u32::from(x);
     (((o >> (c + k)) * pow2(c) + w) * pow2(k) + o % pow2(k)) as u8
 }
 
-// Writes the low n bits of v from the bit r of the byte q on, a byte at a time.
+// Writes the low n bits of v from the bit r of the byte q on, a byte at a time, in the same steps.
 fn put_bits(out: &mut [u8], q: usize, r: u32, v: u32, n: u32)
     requires { (n ≤ 32) × (r < 8) × (8 * q + r + n ≤ 8 * length out.old) }
     ensures { bits_of out.new ≡ splice (bits_of out.old) (8 * q + r) (bits_n n v) }

@@ -78,7 +78,7 @@ pub fn vq_lookup(hebap: u8, index: usize) -> [f32; 6]
 fn exact_entry(e: i16) -> i32
     ensures { result ≡ exact_entry e }
 {
-    (e as i32) * 32768
+    i32::from(e) * 32768
 }
 
 // The six numbers of the book from the place a on go to the places from `at` on, as fractions and as exact values.
@@ -176,7 +176,8 @@ fn nearer(s: Nearest, d: f32, k: usize) -> Nearest
 }
 
 // The first of the vectors nearest to x in the book of the hebap. Four at a time, which the machine does together; only
-// where one of them is nearer than all before are they compared one by one.
+// where one of them is nearer than all before are they compared one by one. With step_by(4) the bounds of k + 1 to k + 3
+// need what `k` brings here, said once more, so it is no plainer.
 pub fn search(hebap: u8, x: &[f32]) -> usize
     requires le_hebap { (1 ≤ hebap) × (hebap ≤ 7) }
     requires x_len { length x.now ≡ 6 }

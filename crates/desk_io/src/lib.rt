@@ -18,7 +18,8 @@ pub enum Fault {
     Unwritten,
 }
 
-// Reads until the buffer is full or the input ends. Returns how many bytes that is.
+// Reads until the buffer is full or the input ends. Returns how many bytes that is. Of std, read_exact and read_to_end say
+// too little of what was read before an error.
 fn read_input<R: Read>(reader: &mut R, buf: &mut [u8]) -> io::Result<usize>
     ensures front { IfOk result (IsRead (R.remaining reader.old) (R.remaining reader.new) buf.new) }
     ensures limit { ReadsFew (R.remaining reader.old) (R.remaining reader.new) (length buf.new) }

@@ -19,11 +19,11 @@ loop-i-init c = search rules
 next : (c : After-pow2-in-loop-i) →
     let a = c.args in
     let k = c.step-c.result in
-    c.loop-i.v * c.pow2.result + c.wide-x.result / 2 ^ (8 - c.loop-i.p - k) % c.pow2-in-loop-i.result
+    c.loop-i.v * c.pow2.result + c.from-x.result / 2 ^ (8 - c.loop-i.p - k) % c.pow2-in-loop-i.result
     ≡ number_of (take (c.loop-i.i + k) (drop (8 * a.q + a.r) (bits_of a.src.now)))
 next c =
     let a = c.args in
-    number_next a.src.now (8 * a.q + a.r) c.loop-i.i c.loop-i.b c.loop-i.p c.loop-i.v c.wide-x.result c.step-c.result _ _
+    number_next a.src.now (8 * a.q + a.r) c.loop-i.i c.loop-i.b c.loop-i.p c.loop-i.v c.from-x.result c.step-c.result _ _
     c.loop-i.invariant.3 c.loop-i.invariant.1 (search rules) (omega arith) (omega arith) (search rules) (search rules)
 
 pub overflow_mul-v : goal.overflow_mul-v
