@@ -33,10 +33,6 @@ pub record Answered {A : Type 0} (r : Result A Refusal) : Type 0 where
   pub value : A
   pub is : r ≡ Ok value
 
-pub answer_there : {A : Type 0} (r : Result A Refusal) → answer_number r ≡ 0 → Answered r
-answer_there (Ok a) e = record { value = a; is = refl }
-answer_there (Err k) e = let n = numbered k in absurd (omega arith)
-
 -- and the number tells which refusal it is
 abbrev by_number : ℕ → Refusal
 by_number n = get_or (Text ∷ StartAboveEnd ∷ EndAbove256 ∷ TooShort ∷ HebapAbove19 ∷ Component ∷ PlanMisfit ∷ OutputFull ∷ InputEnds ∷ GroupWord ∷ UnusedCode ∷ NoQuantiser ∷ OutOfRange ∷ Text ∷ []) n Text

@@ -10,11 +10,10 @@ use lib.Seq.{drop-drop, drop-append_seam}
 use lib.Dec.{leb}
 use borrow.Author.Tests.{le-leb, lt-leb, leb-true, leb-false}
 use Rattle.bits.specs.Bits.{bits_of, number_of, bit_at, pos_of, read_u32, Inside}
-use Rattle.bits.specs.Format.{Format, number, number_in, got, refused}
+use Rattle.bits.specs.Format.{Format, number, number_in, got}
 use Rattle.bits.specs.declared.BitPos.{BitPos}
 use Rattle.std.specs.Prelude.{Result, Ok}
 use Rattle.answers.specs.declared.Refusal.{Refusal}
-use Rattle.answers.specs.declared.Refusal.TheVariants.{InputEnds}
 use Rattle.bits.proofs.Lawful.{Lawful}
 use Rattle.bits.proofs.Laws.{length_bits_of, read_good, read_short}
 
@@ -83,10 +82,6 @@ module _ (s : List ℕ) (at n : ℕ) (few : n ≤ 32) where
 
   pub behind_inside : at + n ≤ 8 * length s → Inside (8 * length s) (pos_of (at + n))
   behind_inside f = (omega arith, omega arith)
-
-  -- they are not
-  pub number_missing : 8 * length s < at + n → 0 < n ⊎ at ≤ 8 * length s → (number n).dec (drop at (bits_of s)) ≡ refused InputEnds
-  number_missing f o = number_short f o ∙ ap (number_in (bits_of s)) (read_short s at n few f)
 
 -- the position behind what was read, and the bits from there on
 pub next_is : {A : Type 0} (F : Format A) → Lawful F → (s : List ℕ) (at : ℕ) (a : A) (rest : List Bool) → at ≤ 8 * length s → F.dec (drop at (bits_of s)) ≡ got a rest

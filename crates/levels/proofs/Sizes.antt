@@ -9,25 +9,19 @@ use lib.Dec.{T, ltb, eqb, ltb→lt}
 use lib.IntN.{ℤ, pos, negsuc, neg_ℤ, nat_abs, sub_ℕ, ◌+ℤ◌, ◌*ℤ◌}
 use lib.Pow.{pow-add, pow_mono}
 use lib.Signed.{mag, lt_z, nat_abs-le}
-use mir.Syntax.{w16, w32}
-use mir.Val.{to_z, of_z, SFits}
 use Rattle.tables.specs.Tables.{mant_bits, gaq_remap_at}
 use Rattle.tables.specs.Numbers.{gaq_remap_table}
 use Rattle.tables.proofs.Tests.{and_parts, every_at}
 use Rattle.tables.proofs.Rules.{mant_bits_lem}
 use Rattle.levels.specs.Codes.{signed, small_bits, large_bits}
 use Rattle.levels.specs.Exact.{slope, offset_by_sign, is_negative}
-use Rattle.levels.proofs.Signed.{by_test, back, signed_less, small_width, large_width}
+use Rattle.levels.proofs.Signed.{by_test, signed_less, small_width, large_width}
 use Rattle.levels.proofs.Rows.{at_gain}
 
 -- ---- sizes of signed numbers
 pub mag_abs : (z : ℤ) → mag z ≤ nat_abs z
 mag_abs (pos n) = omega arith
 mag_abs (negsuc n) = omega arith
-
-pub abs_mag : (z : ℤ) → nat_abs z ≤ suc (mag z)
-abs_mag (pos n) = omega arith
-abs_mag (negsuc n) = omega arith
 
 pub abs_neg : (n : ℕ) → nat_abs (neg_ℤ (pos n)) ≡ n
 abs_neg zero = refl
@@ -58,13 +52,6 @@ times_power z i j k h e = rw (← e, pow-add 2 i j) (mul-le-mul_right (2 ^ j) (n
 pub below_zero : (z : ℤ) → lt_z z (pos 0) ≡ is_negative z
 below_zero (pos n) = let h : 0 ≤ n = omega arith in le-ltb n 0 h
 below_zero (negsuc n) = refl
-
--- ---- a number of 16 bits with its sign, as one of 32
-pub widened_fits : (z : ℤ) → mag z < 2 ^ 15 → SFits w32 (to_z w16 (of_z w16 z))
-widened_fits z h = rw (back w16 z h refl) (record { sfits = omega arith })
-
-pub widened : (z : ℤ) {y : ℤ} → mag z < 2 ^ 15 → z ≡ y → to_z w32 (of_z w32 (to_z w16 (of_z w16 z))) ≡ y
-widened z h e = let k = back w16 z h e in back w32 (to_z w16 (of_z w16 z)) (widened_fits z h).sfits k
 
 -- ---- the steps of l × ((32768 + a) × 2 ^ e) + b × 2 ^ 15
 pub record Steps (l z : ℤ) (p : ℕ) (b : ℤ) : Type 0 where
