@@ -1,4 +1,4 @@
--- `writer::write_bins` meets its contract. Assumes nothing.
+-- `writer::FieldWriter::write_bins` meets its contract. Assumes nothing.
 use native.Mathlib.Omega.{arith}
 use Prim.Native.Nat.{◌+◌}
 use mathlib.Core.Path.{refl, sym, ap, ◌∙◌}
@@ -13,11 +13,11 @@ use Rattle.writer.specs.Work.{bin_enc, bins_enc}
 use Rattle.writer.proofs.Turns.{Next, left_all, left_room, left_next, left_none}
 use Rattle.writer.proofs.Words.{bins_next, bins_end}
 use Rattle.writer.proofs.Channel.{part_six}
-use Rattle.writer.proofs.write_bins.Goals as goal
-use Rattle.writer.proofs.write_bins.Goals.{After-gain_at}
+use Rattle.writer.proofs.FieldWriter.write_bins.Goals as goal
+use Rattle.writer.proofs.FieldWriter.write_bins.Goals.{After-gain_at}
 
 pub loop-bin-init : goal.loop-bin-init
-loop-bin-init c = let a = c.args in (sym (count_start a.mode a.row.now a.start), left_all a.out.now a.p _ (λ i k. (c.type_inv.out i).fits) c.requires.bit_bound)
+loop-bin-init c = let a = c.args in (sym (count_start a.mode a.row.now a.start), left_all a.self.now _)
 
 -- the bits of the bin and of those behind it
 turn : (c : After-gain_at)
@@ -36,11 +36,11 @@ turn c =
           (sym (bin_is a.mode g a.row.now a.start k c.loop-bin.n (get_or a.row.now k 0) c.gain_at.result refl c.loop-bin.invariant.0 c.gain_at.ensures));
     }
 
-pub write_bin-q-requires-clause-hebap_bound : goal.write_bin-q-requires-clause-hebap_bound
-write_bin-q-requires-clause-hebap_bound c = known_hebap c.args.row.now c.args.start c.args.end c.loop-bin.bin c.requires.row_ok.known c.loop-bin.auto.bin c.loop-bin-test.true
+pub write_bin-requires-clause-hebap_bound : goal.write_bin-requires-clause-hebap_bound
+write_bin-requires-clause-hebap_bound c = known_hebap c.args.row.now c.args.start c.args.end c.loop-bin.bin c.requires.row_ok.known c.loop-bin.auto.bin c.loop-bin-test.true
 
-pub write_bin-q-requires-clause-room : goal.write_bin-q-requires-clause-room
-write_bin-q-requires-clause-room c = rw (part_six c.args.x.now c.loop-bin.bin) (left_room c.loop-bin.invariant.1 (turn (goal.at.write_bin-q-requires-clause-room c).After-gain_at) c.requires.room)
+pub write_bin-requires-clause-room : goal.write_bin-requires-clause-room
+write_bin-requires-clause-room c = rw (part_six c.args.x.now c.loop-bin.bin) (left_room c.loop-bin.invariant.1 (turn (goal.at.write_bin-requires-clause-room c).After-gain_at) c.requires.room)
 
 pub overflow_add-n : goal.overflow_add-n
 overflow_add-n c = let s = c.args in omega (arith, count_most s.mode s.row.now s.start c.loop-bin.bin, c.gains_used-n.ensures, one_small (active s.mode (get_or s.row.now c.loop-bin.bin 0)))
@@ -48,7 +48,7 @@ overflow_add-n c = let s = c.args in omega (arith, count_most s.mode s.row.now s
 pub loop-bin-preserved : goal.loop-bin-preserved
 loop-bin-preserved c = let a = c.args in let k = c.loop-bin.bin in (
   rank_turn a.mode a.row.now a.start k c.loop-bin.n c.gains_used-n.result (active a.mode (get_or a.row.now k 0)) c.loop-bin.auto.bin c.loop-bin.invariant.0 refl c.gains_used-n.ensures,
-  left_next c.loop-bin.invariant.1 (turn (goal.at.loop-bin-preserved c).After-gain_at) c.requires.room _ _ (rw (part_six a.x.now k) at c.write_bin-q.ensures),
+  left_next c.loop-bin.invariant.1 (turn (goal.at.loop-bin-preserved c).After-gain_at) c.requires.room _ (rw (part_six a.x.now k) at c.write_bin.ensures),
 )
 
 pub returns : goal.returns
