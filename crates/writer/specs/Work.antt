@@ -2,8 +2,8 @@
 use Rattle.std.specs.Prelude.{ℕ, List, [], ◌∷◌, Bool, Float, length}
 use Rattle.bits.specs.Format.{each}
 use Rattle.channel.specs.Bins.{over}
-use Rattle.channel.specs.Field.{gain_code, Bin, lenient, item, bin_at, gain_words}
-use Rattle.writer.specs.Written.{item_of, written_at}
+use Rattle.channel.specs.Field.{gain_code, Bin, lenient, item, bin_at, gain_words, field}
+use Rattle.writer.specs.Written.{item_of, written_at, written_of}
 
 -- the bits of a bin with the vector v, of the bins k to end - 1, and of gains
 abbrev pub bin_enc : Bin → List Float → List Bool
@@ -15,6 +15,10 @@ bins_enc mode gains row x start end k =
 
 abbrev pub gains_enc : ℕ → List ℕ → List Bool
 gains_enc mode gains = (gain_words mode (length gains)).enc gains
+
+-- and of a choice: its field
+abbrev pub choice_enc : ℕ → List ℕ → List ℕ → List Float → ℕ → ℕ → List Bool
+choice_enc mode gains row x start end = (field row start end).enc (written_of mode gains row x start end)
 
 -- the code of the first of some gains in mode 3; 0 where there is none
 abbrev pub code_from : List ℕ → ℕ

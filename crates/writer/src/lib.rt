@@ -3,15 +3,14 @@
 
 ghost use Rattle.std.specs.Prelude.{◌≡◌, ◌*◌, ◌<◌, ◌≤◌, false, length, drop};
 ghost use Rattle.bits.specs.Bits.{bits_n, bit_at};
-ghost use Rattle.channel.specs.Row.{RowOk};
-ghost use Rattle.channel.specs.Field.{gain_code, packed, book, scalar, bin_of, field};
+ghost use Rattle.channel.specs.Field.{gain_code, packed, book, scalar, bin_of};
 ghost use Rattle.planner.specs.Choice.{Choice};
-ghost use Rattle.planner.specs.Work.{Within};
-ghost use Rattle.writer.specs.Written.{written_of, channel_write, channel_written};
-ghost use Rattle.writer.specs.Work.{bin_enc, bins_enc, gains_enc, code_from};
+ghost use Rattle.writer.specs.Written.{channel_write, channel_written};
+ghost use Rattle.writer.specs.Work.{bin_enc, bins_enc, gains_enc, choice_enc, code_from};
 
 use answers::Refusal;
 use bits::BitPos;
+use channel::bins::Bins;
 use gains::Coding;
 use planner::Plan;
 use quantiser::Steps;
@@ -154,24 +153,15 @@ impl<'a> FieldWriter<'a> {
         }
     }
 
-    // What stands in the field for the bins start to end - 1.
-    fn write_bins(
-        &mut self,
-        mode: u8,
-        row: &[u8],
-        start: usize,
-        end: usize,
-        x: &[f32],
-        gains: &[u8],
-    )
-        requires row_ok { RowOk row.now start end }
-        requires end_in_bounds { 6 * end ≤ length x.now }
-        requires room { Room (bins_enc mode gains.now row.now x.now start end start) self.old }
-        ensures { Puts (bins_enc mode gains.now row.now x.now start end start) self.old self.new }
+    // What stands in the field for the bins of a row.
+    fn write_bins(&mut self, mode: u8, gains: &[u8], bins: Bins, x: &[f32])
+        requires end_in_bounds { 6 * bins.end ≤ length x.now }
+        requires room { Room (bins_enc mode gains.now bins.row.now x.now bins.start bins.end bins.start) self.old }
+        ensures { Puts (bins_enc mode gains.now bins.entry.row.now x.now bins.entry.start bins.entry.end bins.entry.start) self.old self.new }
     {
         let mut n: usize = 0;
-        for bin in start..end {
-            let hebap = row[bin];
+        for bin in bins.start..bins.end {
+            let hebap = bins.hebap(bin);
             let a = 6 * bin;
             self.write_bin(mode, hebap, channel::gain_at(gains, n), &x[a..a + 6]);
             n += channel::gains_used(mode, hebap);
@@ -179,23 +169,15 @@ impl<'a> FieldWriter<'a> {
     }
 
     // The field of a choice.
-    fn write_field(
-        &mut self,
-        mode: u8,
-        gains: &[u8],
-        row: &[u8],
-        start: usize,
-        end: usize,
-        x: &[f32],
-    )
-        requires within { Within row.now start end x.now }
-        requires choice { Choice mode gains.now row.now start end }
-        requires room { Room ((field row.now start end).enc (written_of mode gains.now row.now x.now start end)) self.old }
-        ensures { Puts ((field row.now start end).enc (written_of mode gains.now row.now x.now start end)) self.old self.new }
+    fn write_field(&mut self, mode: u8, gains: &[u8], bins: Bins, x: &[f32])
+        requires end_in_bounds { 6 * bins.end ≤ length x.now }
+        requires choice { Choice mode gains.now bins.row.now bins.start bins.end }
+        requires room { Room (choice_enc mode gains.now bins.row.now x.now bins.start bins.end) self.old }
+        ensures { Puts (choice_enc mode gains.now bins.entry.row.now x.now bins.entry.start bins.entry.end) self.old self.new }
     {
         self.put(mode as u32, 2);
         self.write_gains(mode, gains);
-        self.write_bins(mode, row, start, end, x, gains)
+        self.write_bins(mode, gains, bins, x)
     }
 }
 
@@ -219,6 +201,11 @@ pub fn write_aht_channel(
     }
     let gains = &plan.gains[..plan.count];
     let mut writer = FieldWriter::new(out, pos);
-    writer.write_field(plan.mode, gains, hebap, start, end, x);
+    let bins = Bins {
+        row: hebap,
+        start,
+        end,
+    };
+    writer.write_field(plan.mode, gains, bins, x);
     Ok(writer.pos)
 }

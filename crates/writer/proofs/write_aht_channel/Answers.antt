@@ -59,12 +59,16 @@ slice_bounds-gains-end c = sym (length-take-le c.args.plan.count c.args.plan.gai
 pub shared_ref_as_front-gains : goal.shared_ref_as_front-gains
 shared_ref_as_front-gains c = let r = (fit (goal.at.shared_ref_as_front-gains c).In_ok-check_plan).room in search rules
 
+pub invariant_of-bins : goal.invariant_of-bins
+invariant_of-bins c = let r = (fit (goal.at.invariant_of-bins c).In_ok-check_plan).within.row_ok in
+    record { ordered = r.ordered; few = r.few; rows = r.rows; known = r.known }
+
 pub write_field-requires : goal.write_field-requires
 write_field-requires c =
     let d = goal.at.write_field-requires c in
     let f = fit d.In_ok-check_plan in
     let w = c.new-writer.ensures in
-    record { within = f.within; choice = f.choice; room = rw (w.place, w.bytes) (omega (arith, long d.In_ok-check_plan, room d.Else-not-has_bits)) }
+    record { end_in_bounds = f.within.vectors; choice = f.choice; room = rw (w.place, w.bytes) (omega (arith, long d.In_ok-check_plan, room d.Else-not-has_bits)) }
 
 pub returns : goal.returns
 returns c =

@@ -17,40 +17,44 @@ use Rattle.writer.proofs.FieldWriter.write_bins.Goals as goal
 use Rattle.writer.proofs.FieldWriter.write_bins.Goals.{After-gain_at}
 
 pub loop-bin-init : goal.loop-bin-init
-loop-bin-init c = let a = c.args in (sym (count_start a.mode a.row.now a.start), left_all a.self.now _)
+loop-bin-init c = let a = c.args in (sym (count_start a.mode a.bins.row.now a.bins.start), left_all a.self.now _)
 
 -- the bits of the bin and of those behind it
 turn : (c : After-gain_at)
     → let a = c.args in
+    let b = a.bins in
     let k = c.loop-bin.bin in
-    Next (bins_enc a.mode a.gains.now a.row.now a.x.now a.start a.end k)
-    (bin_enc (bin_of a.mode (get_or a.row.now k 0) c.gain_at.result) (six_of a.x.now k)) (bins_enc a.mode a.gains.now a.row.now a.x.now a.start a.end (k + 1))
+    Next (bins_enc a.mode a.gains.now b.row.now a.x.now b.start b.end k)
+    (bin_enc (bin_of a.mode (get_or b.row.now k 0) c.gain_at.result) (six_of a.x.now k)) (bins_enc a.mode a.gains.now b.row.now a.x.now b.start b.end (k + 1))
 turn c =
     let a = c.args in
+    let b = a.bins in
     let k = c.loop-bin.bin in
     let g = a.gains.now in
     record {
       is =
-          bins_next a.mode g a.row.now a.x.now a.start a.end k (omega arith)
-          ∙ ap (λ b. bin_enc b (six_of a.x.now k) ++ bins_enc a.mode g a.row.now a.x.now a.start a.end (k + 1))
-          (sym (bin_is a.mode g a.row.now a.start k c.loop-bin.n (get_or a.row.now k 0) c.gain_at.result refl c.loop-bin.invariant.0 c.gain_at.ensures));
+          bins_next a.mode g b.row.now a.x.now b.start b.end k (omega arith)
+          ∙ ap (λ i. bin_enc i (six_of a.x.now k) ++ bins_enc a.mode g b.row.now a.x.now b.start b.end (k + 1))
+          (sym (bin_is a.mode g b.row.now b.start k c.loop-bin.n (get_or b.row.now k 0) c.gain_at.result refl c.loop-bin.invariant.0 c.gain_at.ensures));
     }
 
 pub write_bin-requires-clause-hebap_bound : goal.write_bin-requires-clause-hebap_bound
-write_bin-requires-clause-hebap_bound c = known_hebap c.args.row.now c.args.start c.args.end c.loop-bin.bin c.requires.row_ok.known c.loop-bin.auto.bin c.loop-bin-test.true
+write_bin-requires-clause-hebap_bound c = let b = c.args.bins in
+    rw c.hebap-hebap.ensures (known_hebap b.row.now b.start b.end c.loop-bin.bin b.known c.loop-bin.auto.bin c.loop-bin-test.true)
 
 pub write_bin-requires-clause-room : goal.write_bin-requires-clause-room
-write_bin-requires-clause-room c = rw (part_six c.args.x.now c.loop-bin.bin) (left_room c.loop-bin.invariant.1 (turn (goal.at.write_bin-requires-clause-room c).After-gain_at) c.requires.room)
+write_bin-requires-clause-room c =
+    rw (c.hebap-hebap.ensures, part_six c.args.x.now c.loop-bin.bin) (left_room c.loop-bin.invariant.1 (turn (goal.at.write_bin-requires-clause-room c).After-gain_at) c.requires.room)
 
 pub overflow_add-n : goal.overflow_add-n
-overflow_add-n c = let s = c.args in omega (arith, count_most s.mode s.row.now s.start c.loop-bin.bin, c.gains_used-n.ensures, one_small (active s.mode (get_or s.row.now c.loop-bin.bin 0)))
+overflow_add-n c = let a = c.args in omega (arith, count_most a.mode a.bins.row.now a.bins.start c.loop-bin.bin, c.gains_used-n.ensures, one_small (active a.mode c.hebap-hebap.result))
 
 pub loop-bin-preserved : goal.loop-bin-preserved
-loop-bin-preserved c = let a = c.args in let k = c.loop-bin.bin in (
-  rank_turn a.mode a.row.now a.start k c.loop-bin.n c.gains_used-n.result (active a.mode (get_or a.row.now k 0)) c.loop-bin.auto.bin c.loop-bin.invariant.0 refl c.gains_used-n.ensures,
-  left_next c.loop-bin.invariant.1 (turn (goal.at.loop-bin-preserved c).After-gain_at) c.requires.room _ (rw (part_six a.x.now k) at c.write_bin.ensures),
+loop-bin-preserved c = let a = c.args in let b = a.bins in let k = c.loop-bin.bin in (
+  rank_turn a.mode b.row.now b.start k c.loop-bin.n c.gains_used-n.result (active a.mode (get_or b.row.now k 0)) c.loop-bin.auto.bin c.loop-bin.invariant.0 refl (rw c.hebap-hebap.ensures at c.gains_used-n.ensures),
+  left_next c.loop-bin.invariant.1 (turn (goal.at.loop-bin-preserved c).After-gain_at) c.requires.room _ (rw (c.hebap-hebap.ensures, part_six a.x.now k) at c.write_bin.ensures),
 )
 
 pub returns : goal.returns
-returns c = let a = c.args in
-    left_none c.loop-bin.invariant.1 (bins_end a.mode a.gains.now a.row.now a.x.now a.start a.end c.loop-bin.bin (omega arith))
+returns c = let a = c.args in let b = a.bins in
+    left_none c.loop-bin.invariant.1 (bins_end a.mode a.gains.now b.row.now a.x.now b.start b.end c.loop-bin.bin (omega arith))
