@@ -3,7 +3,6 @@ use Prim.Native.Nat.{ℕ, ◌+◌, ◌*◌, ◌≤◌, ◌<◌}
 use mathlib.Core.Path.{◌≡◌, refl, sym, ap, ◌∙◌, subst}
 use mathlib.Core.Bool.{Bool}
 use mathlib.Core.List.{List, ◌++◌}
-use native.Mathlib.Nat.{le_trans, le_of_eq}
 use native.Mathlib.Omega.{arith}
 use borrow.Author.Tests.{le-leb, lt-leb}
 use lib.ListN.{length, length-append}
@@ -12,8 +11,8 @@ use Rattle.bits.specs.Bits.{bits_n, bits_of, splice, bit_at, pos_of, bytes_with}
 use Rattle.bits.specs.Format.{number}
 use Rattle.bits.specs.declared.BitPos.{BitPos}
 use Rattle.bits.proofs.Laws.{Bytes, bytes_with_lem}
-use Rattle.channel.specs.Field.{gain_words, field}
-use Rattle.channel.proofs.Rows.{count_most}
+use Rattle.channel.specs.declared.bins.Bins.{Bins}
+use Rattle.channel.specs.Field.{gain_words}
 use Rattle.planner.specs.declared.Plan.{Plan}
 use Rattle.planner.specs.Choice.{Choice}
 use Rattle.planner.specs.Planning.{total_of}
@@ -21,17 +20,14 @@ use Rattle.planner.specs.Fit.{plan_cause}
 use Rattle.std.specs.Prelude.{None, Some, Result, Ok, Err}
 use Rattle.answers.specs.declared.Refusal.{Refusal}
 use Rattle.answers.specs.declared.Refusal.TheVariants.{OutputFull}
-use Rattle.writer.specs.Written.{written_of, field_of, write_cause, write_cause_up_to, channel_write, channel_write_up_to, channel_written, channel_written_up_to}
-use Rattle.writer.specs.Work.{bins_enc, gains_enc}
+use Rattle.writer.specs.Written.{field_of, write_cause, write_cause_up_to, channel_write, channel_write_up_to, channel_written, channel_written_up_to}
+use Rattle.writer.specs.Work.{bins_enc, gains_enc, choice_enc}
 use Rattle.writer.specs.Puts.{Room, Puts}
 use Rattle.writer.specs.declared.FieldWriter.{FieldWriter}
 use Rattle.writer.proofs.Turns.{named, puts_both}
 
 -- ---- the field of a choice: the mode, then its gain words, then the bins
-module _ (mode : ℕ) (gains row : List ℕ) (x : List Float) (start end : ℕ) (few : end ≤ 256) (choice : Choice mode gains row start end) where
-  pub few_gains : length gains ≤ 256
-  few_gains = le_trans (le_of_eq choice.one_each) (le_trans (count_most mode row start end) few)
-
+module _ (mode : ℕ) (gains : List ℕ) (b : Bins) (x : List Float) (choice : Choice mode gains b.row.now b.start b.end) where
   abbrev first : List Bool
   first = bits_n 2 mode
 
@@ -39,10 +35,10 @@ module _ (mode : ℕ) (gains row : List ℕ) (x : List Float) (start end : ℕ) 
   second = gains_enc mode gains
 
   abbrev third : List Bool
-  third = bins_enc mode gains row x start end start
+  third = bins_enc mode gains b x b.start
 
   abbrev whole : List Bool
-  whole = (field row start end).enc (written_of mode gains row x start end)
+  whole = choice_enc mode gains b x
 
   whole_is : whole ≡ first ++ (second ++ third)
   unfolding number
@@ -69,7 +65,7 @@ module _ (mode : ℕ) (gains row : List ℕ) (x : List Float) (start end : ℕ) 
             let n = f.place in
             let m = f.long in
             let a = length-append second third in
-            let b = length-append first (second ++ third) in
+            let e = length-append first (second ++ third) in
             subst (λ (bs : List Bool). Puts bs w z) (sym whole_is) (puts_both (omega arith) f (puts_both (omega arith) g h))
 
 -- ---- the call

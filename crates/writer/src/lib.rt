@@ -156,8 +156,8 @@ impl<'a> FieldWriter<'a> {
     // What stands in the field for the bins of a row.
     fn write_bins(&mut self, mode: u8, gains: &[u8], bins: Bins, x: &[f32])
         requires end_in_bounds { 6 * bins.end ≤ length x.now }
-        requires room { Room (bins_enc mode gains.now bins.row.now x.now bins.start bins.end bins.start) self.old }
-        ensures { Puts (bins_enc mode gains.now bins.entry.row.now x.now bins.entry.start bins.entry.end bins.entry.start) self.old self.new }
+        requires room { Room (bins_enc mode gains.now bins x.now bins.start) self.old }
+        ensures { Puts (bins_enc mode gains.now bins.entry x.now bins.entry.start) self.old self.new }
     {
         let mut n: usize = 0;
         for bin in bins.start..bins.end {
@@ -172,8 +172,8 @@ impl<'a> FieldWriter<'a> {
     fn write_field(&mut self, mode: u8, gains: &[u8], bins: Bins, x: &[f32])
         requires end_in_bounds { 6 * bins.end ≤ length x.now }
         requires choice { Choice mode gains.now bins.row.now bins.start bins.end }
-        requires room { Room (choice_enc mode gains.now bins.row.now x.now bins.start bins.end) self.old }
-        ensures { Puts (choice_enc mode gains.now bins.entry.row.now x.now bins.entry.start bins.entry.end) self.old self.new }
+        requires room { Room (choice_enc mode gains.now bins x.now) self.old }
+        ensures { Puts (choice_enc mode gains.now bins.entry x.now) self.old self.new }
     {
         self.put(mode as u32, 2);
         self.write_gains(mode, gains);

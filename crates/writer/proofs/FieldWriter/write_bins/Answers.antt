@@ -22,10 +22,9 @@ loop-bin-init c = let a = c.args in (sym (count_start a.mode a.bins.row.now a.bi
 -- the bits of the bin and of those behind it
 turn : (c : After-gain_at)
     → let a = c.args in
-    let b = a.bins in
     let k = c.loop-bin.bin in
-    Next (bins_enc a.mode a.gains.now b.row.now a.x.now b.start b.end k)
-    (bin_enc (bin_of a.mode (get_or b.row.now k 0) c.gain_at.result) (six_of a.x.now k)) (bins_enc a.mode a.gains.now b.row.now a.x.now b.start b.end (k + 1))
+    Next (bins_enc a.mode a.gains.now a.bins a.x.now k)
+    (bin_enc (bin_of a.mode (get_or a.bins.row.now k 0) c.gain_at.result) (six_of a.x.now k)) (bins_enc a.mode a.gains.now a.bins a.x.now (k + 1))
 turn c =
     let a = c.args in
     let b = a.bins in
@@ -33,8 +32,8 @@ turn c =
     let g = a.gains.now in
     record {
       is =
-          bins_next a.mode g b.row.now a.x.now b.start b.end k (omega arith)
-          ∙ ap (λ i. bin_enc i (six_of a.x.now k) ++ bins_enc a.mode g b.row.now a.x.now b.start b.end (k + 1))
+          bins_next a.mode g b a.x.now k (omega arith)
+          ∙ ap (λ i. bin_enc i (six_of a.x.now k) ++ bins_enc a.mode g b a.x.now (k + 1))
           (sym (bin_is a.mode g b.row.now b.start k c.loop-bin.n (get_or b.row.now k 0) c.gain_at.result refl c.loop-bin.invariant.0 c.gain_at.ensures));
     }
 
@@ -56,5 +55,5 @@ loop-bin-preserved c = let a = c.args in let b = a.bins in let k = c.loop-bin.bi
 )
 
 pub returns : goal.returns
-returns c = let a = c.args in let b = a.bins in
-    left_none c.loop-bin.invariant.1 (bins_end a.mode a.gains.now b.row.now a.x.now b.start b.end c.loop-bin.bin (omega arith))
+returns c = let a = c.args in
+    left_none c.loop-bin.invariant.1 (bins_end a.mode a.gains.now a.bins a.x.now c.loop-bin.bin (omega arith))
