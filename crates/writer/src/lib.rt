@@ -1,7 +1,7 @@
 // The writer: the field of a plan put into an output, a code and a gain word at a time.
 #![tactic(auto)]
 
-ghost use Rattle.std.specs.Prelude.{◌≡◌, ◌*◌, ◌<◌, ◌≤◌, false, length, drop};
+ghost use Rattle.std.specs.Prelude.{◌≡◌, ◌*◌, ◌<◌, ◌≤◌, length, drop};
 ghost use Rattle.bits.specs.Bits.{bits_n, bit_at};
 ghost use Rattle.channel.specs.Field.{gain_code, packed, book, scalar, bin_of};
 ghost use Rattle.planner.specs.Choice.{Choice};
@@ -53,11 +53,11 @@ fn word_of(group: &[u8]) -> u32
     gains::pack(code_at(group, 0), code_at(group, 1), code_at(group, 2))
 }
 
-// Each writes a part of the field, where there is room for it.
+// Each `put` and `write` writes a part of the field, where there is room for it.
 impl<'a> FieldWriter<'a> {
     ghost use Rattle.writer.specs.Puts.{Room, Puts};
 
-    // From the position on.
+    // From a position on, whose bit may be above 7.
     fn new(out: &'a mut [u8], pos: BitPos) -> FieldWriter<'a>
         requires inside { bit_at pos ≤ 8 * length out.now }
         ensures place { bit_at result.pos ≡ bit_at pos }
@@ -76,7 +76,7 @@ impl<'a> FieldWriter<'a> {
         requires room { Room (bits_n n v) self.old }
         ensures { Puts (bits_n n v) self.old self.new }
     {
-        self.pos = self.pos.write_u32(&mut *self.out, v, n).unwrap();
+        self.pos = self.pos.write_u32(self.out, v, n).unwrap();
     }
 
     // The quantiser's codes for the six components of a bin.
