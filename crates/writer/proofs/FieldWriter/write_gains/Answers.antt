@@ -12,9 +12,6 @@ write_group_words-requires c = let a = c.args in
     let e : a.mode ≡ 3 = omega arith in
     subst (λ m. Room (gains_enc m a.gains.now) a.self.now) e c.requires.room
 
-pub write_gain_bits-requires : goal.write_gain_bits-requires
-write_gain_bits-requires c = record { le_mode = (omega arith, omega arith); room = c.requires.room }
-
 pub returns-in-0 : goal.returns-in-0
 returns-in-0 c = let a = c.args in
     rw (words_zero a.mode a.gains.now (omega arith)) (puts_none a.self.now)
@@ -23,6 +20,3 @@ pub returns-in-3 : goal.returns-in-3
 returns-in-3 c = let a = c.args in
     let e : a.mode ≡ 3 = omega arith in
     subst (λ m. Puts (gains_enc m a.gains.now) a.self.now c.write_group_words.new.self) (sym e) c.write_group_words.ensures
-
-pub returns-in_default : goal.returns-in_default
-returns-in_default c = c.write_gain_bits.ensures
