@@ -70,7 +70,8 @@ impl<'a> FieldWriter<'a> {
         }
     }
 
-    // The low n bits of v.
+    // The low n bits of v. Inlined, since a call for each code would take the position through memory.
+    #[inline(always)]
     fn put(&mut self, v: u32, n: u32)
         requires n_bound { n ≤ 32 }
         requires room { Room (bits_n n v) self.old }
