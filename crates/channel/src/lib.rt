@@ -9,6 +9,8 @@ ghost use Rattle.answers.specs.Answers.{answered};
 
 use answers::Refusal;
 
+pub mod bins;
+
 #[tactic(auto, unfolding(crate::specs::Row::no_gains))]
 pub fn no_gains() -> [u8; 256]
     ensures { result ≡ no_gains }

@@ -3,16 +3,16 @@ use Prim.Native.Nat.{ℕ, ◌+◌, ◌*◌, ◌≤◌, ◌<◌}
 use mathlib.Core.Path.{◌≡◌, refl, sym, ap, ◌∙◌, subst}
 use mathlib.Core.Bool.{Bool}
 use mathlib.Core.List.{List, ◌++◌}
-use native.Mathlib.Nat.{le_trans, le_of_eq}
 use native.Mathlib.Omega.{arith}
-use borrow.Author.Tests.{ne_eqb, le-leb, lt-leb}
+use borrow.Author.Tests.{le-leb, lt-leb}
 use lib.ListN.{length, length-append}
 use lib.Ieee.{Float}
-use Rattle.bits.specs.Bits.{bits_n, bit_at, pos_of, bytes_with}
+use Rattle.bits.specs.Bits.{bits_n, bits_of, splice, bit_at, pos_of, bytes_with}
 use Rattle.bits.specs.Format.{number}
 use Rattle.bits.specs.declared.BitPos.{BitPos}
-use Rattle.channel.specs.Field.{gain_words, field}
-use Rattle.channel.proofs.Rows.{count_most}
+use Rattle.bits.proofs.Laws.{Bytes, bytes_with_lem}
+use Rattle.channel.specs.declared.bins.Bins.{Bins}
+use Rattle.channel.specs.Field.{gain_words}
 use Rattle.planner.specs.declared.Plan.{Plan}
 use Rattle.planner.specs.Choice.{Choice}
 use Rattle.planner.specs.Planning.{total_of}
@@ -20,15 +20,14 @@ use Rattle.planner.specs.Fit.{plan_cause}
 use Rattle.std.specs.Prelude.{None, Some, Result, Ok, Err}
 use Rattle.answers.specs.declared.Refusal.{Refusal}
 use Rattle.answers.specs.declared.Refusal.TheVariants.{OutputFull}
-use Rattle.writer.specs.Written.{written_of, field_of, write_cause, write_cause_up_to, channel_write, channel_write_up_to, channel_written, channel_written_up_to}
-use Rattle.writer.specs.Work.{Room, Puts, bins_enc, gains_enc}
-use Rattle.writer.proofs.Turns.{place_is, puts_long, puts_bit, puts_both}
+use Rattle.writer.specs.Written.{field_of, write_cause, write_cause_up_to, channel_write, channel_write_up_to, channel_written, channel_written_up_to}
+use Rattle.writer.specs.Work.{bins_enc, gains_enc, choice_enc}
+use Rattle.writer.specs.Puts.{Room, Puts}
+use Rattle.writer.specs.declared.FieldWriter.{FieldWriter}
+use Rattle.writer.proofs.Turns.{named, puts_both}
 
 -- ---- the field of a choice: the mode, then its gain words, then the bins
-module _ (mode : ℕ) (gains row : List ℕ) (x : List Float) (start end : ℕ) (few : end ≤ 256) (choice : Choice mode gains row start end) where
-  pub few_gains : length gains ≤ 256
-  few_gains = le_trans (le_of_eq choice.one_each) (le_trans (count_most mode row start end) few)
-
+module _ (mode : ℕ) (gains : List ℕ) (b : Bins) (x : List Float) (choice : Choice mode gains b.row.now b.start b.end) where
   abbrev first : List Bool
   first = bits_n 2 mode
 
@@ -36,10 +35,10 @@ module _ (mode : ℕ) (gains row : List ℕ) (x : List Float) (start end : ℕ) 
   second = gains_enc mode gains
 
   abbrev third : List Bool
-  third = bins_enc mode gains row x start end start
+  third = bins_enc mode gains b x b.start
 
   abbrev whole : List Bool
-  whole = (field row start end).enc (written_of mode gains row x start end)
+  whole = choice_enc mode gains b x
 
   whole_is : whole ≡ first ++ (second ++ third)
   unfolding number
@@ -48,25 +47,26 @@ module _ (mode : ℕ) (gains row : List ℕ) (x : List Float) (start end : ℕ) 
   lengths : length whole ≡ length first + (length second + length third)
   lengths = ap length whole_is ∙ length-append first (second ++ third) ∙ ap (λ (k : ℕ). length first + k) (length-append second third)
 
-  module _ (s : List ℕ) (p : BitPos) (room : Room whole p s) where
-    pub mode_room : Room first p s
+  module _ (w : FieldWriter) (room : Room whole w) where
+    pub mode_room : Room first w
     mode_room = let l = lengths in omega arith
 
-    module _ (t : List ℕ) (q : BitPos) (f : Puts first p q s t) where
-      pub gains_room : (q.bit < 8) × Room second q t
-      gains_room = let l = lengths in let n = place_is f in let m = puts_long f in (puts_bit f, omega arith)
+    module _ (u : FieldWriter) (f : Puts first w u) where
+      pub gains_room : Room second u
+      gains_room = let l = lengths in let n = f.place in let m = f.long in omega arith
 
-      module _ (u : List ℕ) (r : BitPos) (g : Puts second q r t u) where
-        pub bins_room : (r.bit < 8) × Room third r u
-        bins_room = let l = lengths in let n = place_is f in let m = puts_long f in let i = place_is g in let j = puts_long g in (puts_bit g, omega arith)
+      module _ (v : FieldWriter) (g : Puts second u v) where
+        pub bins_room : Room third v
+        bins_room = let l = lengths in let n = f.place in let m = f.long in let i = g.place in let j = g.long in omega arith
 
-        pub field_put : (v : List ℕ) (z : BitPos) → Puts third r z u v → Puts whole p z s v
-        field_put v z h =
+        pub field_put : (z : FieldWriter) → Puts third v z → Puts whole w z
+        field_put z h =
             let l = lengths in
-            let n = place_is f in
-            let m = puts_long f in
+            let n = f.place in
+            let m = f.long in
             let a = length-append second third in
-            subst (λ (bs : List Bool). Puts bs p z s v) (sym whole_is) (puts_both f (second ++ third) z v (omega arith) (puts_both g third z v (omega arith) h))
+            let e = length-append first (second ++ third) in
+            subst (λ (bs : List Bool). Puts bs w z) (sym whole_is) (puts_both (omega arith) f (puts_both (omega arith) g h))
 
 -- ---- the call
 module _ (p : Plan) (row : List ℕ) (start end : ℕ) (x : List Float) (out : List ℕ) (at : ℕ) where
@@ -86,9 +86,17 @@ module _ (p : Plan) (row : List ℕ) (start end : ℕ) (x : List Float) (out : L
     unfolding write_cause_up_to
     call_short h = refused_with OutputFull (rw (none, lt-leb (at + total_of p) (8 * length out) h))
 
-    pub call_good : at + total_of p ≤ 8 * length out → (q r : BitPos) (e : List ℕ) → bit_at q ≡ at → length (field_of p row start end x) ≡ total_of p → Puts (field_of p row start end x) q r out e
-        → Answers (Ok r) e
+    pub call_good : at + total_of p ≤ 8 * length out → length (field_of p row start end x) ≡ total_of p → (r : BitPos) (e : List ℕ)
+        → r ≡ pos_of (at + length (field_of p row start end x)) → e ≡ bytes_with out at (field_of p row start end x) → Answers (Ok r) e
     unfolding write_cause_up_to channel_write_up_to channel_written_up_to
-    call_good h q r e i l w =
-        let n : bit_at q + length (field_of p row start end x) ≡ at + total_of p = omega arith in
-        rw (none, le-leb (at + total_of p) (8 * length out) h) (ap Ok (w.place ∙ ap pos_of n), w.bytes ∙ ap (λ (k : ℕ). bytes_with out k (field_of p row start end x)) i)
+    call_good h l r e i j =
+        rw (none, le-leb (at + total_of p) (8 * length out) h) (ap Ok (i ∙ ap (λ (n : ℕ). pos_of (at + n)) l), j)
+
+    -- a writer that has put the field, where e is its output
+    pub call_put : at + total_of p ≤ 8 * length out → length (field_of p row start end x) ≡ total_of p → (w v : FieldWriter) → bit_at w.pos ≡ at → w.out.now ≡ out
+        → Puts (field_of p row start end x) w v → (e : List ℕ) → e ≡ v.out.now → Bytes e → Answers (Ok v.pos) e
+    call_put h l w v i j f e k b =
+        let from : bit_at v.pos ≡ at + length (field_of p row start end x) = f.place ∙ rw i in
+        let long : length e ≡ length out = rw (k, f.long, j) in
+        let bits : bits_of e ≡ splice (bits_of out) at (field_of p row start end x) = rw k (f.bits ∙ rw (i, j)) in
+        call_good h l v.pos e (named v.pos _ v.bit_small from) (bytes_with_lem out e at (field_of p row start end x) long b bits)

@@ -3,16 +3,15 @@
 use Prim.Native.Nat.{ℕ, ◌+◌, ◌*◌, ◌≤◌}
 use mathlib.Core.Path.{◌≡◌, refl, sym, ap, ◌∙◌}
 use mathlib.Core.List.{List}
-use mathlib.Core.Bool.{Bool, true, false, cond}
+use mathlib.Core.Bool.{true, false}
 use native.Mathlib.Nat.{le_trans, le_of_eq}
 use native.Mathlib.Omega.{arith}
 use lib.Ieee.{Float}
-use lib.Dec.{eqb, leb}
+use lib.Dec.{leb}
 use lib.ListN.{length, take, drop}
-use borrow.Author.Tests.{eqb-true, leb-true}
+use borrow.Author.Tests.{leb-true}
 use Rattle.bits.specs.Bits.{bits_of, splice, pos_of, bytes_with}
 use Rattle.bits.proofs.Laws.{length_bits_of, bits_with, splice_before, splice_after}
-use Rattle.bits.proofs.Reading.{at_pos}
 use Rattle.channel.specs.Bins.{some_over}
 use Rattle.channel.specs.Field.{lenient}
 use Rattle.channel.proofs.Laws.{lenient_laws}
@@ -23,9 +22,9 @@ use Rattle.planner.specs.Work.{Within}
 use Rattle.planner.specs.Fit.{plan_fits, plan_cause}
 use Rattle.planner.specs.declared.Plan.{Plan}
 use Rattle.planner.proofs.Answer.{cause_none, refusal_is, answer_fits, answer_choice, fine, plan_cause_fit, plan_cause_none, fitting}
-use Rattle.std.specs.Prelude.{Option, None, Some, Result, Ok, Err}
+use Rattle.std.specs.Prelude.{Option, None, Some, Ok}
 use Rattle.answers.specs.Answers.{answer_number}
-use Rattle.answers.specs.Causes.{cause_number, afterwards}
+use Rattle.answers.specs.Causes.{afterwards}
 use Rattle.answers.specs.declared.Refusal.{Refusal}
 use Rattle.answers.specs.declared.Refusal.TheVariants.{OutputFull}
 use Rattle.answers.proofs.Numbers.{first_none, no_number}
@@ -112,8 +111,6 @@ module _ (row : List ℕ) (start end : ℕ) (x : List Float) (given : answer_num
   pub is_written : (out : List ℕ) (at : ℕ) → at + total_of p ≤ 8 * length out
       → (channel_write p row start end x out at ≡ Ok (pos_of (at + total_of p))) × (channel_written p row start end x out at ≡ bytes_with out at (field_of p row start end x))
   is_written out at space =
-      let a = at_pos at in
       let w =
-      call_good p row start end x out at (plan_cause_fit p row start end x true no_cause (sym fits)) space (pos_of at) (pos_of (at + total_of p)) (bytes_with out at (field_of p row start end x)) a field_long
-      (record { place = rw (a, field_long); bytes = rw a }) in
+      call_good p row start end x out at (plan_cause_fit p row start end x true no_cause (sym fits)) space field_long _ _ (rw field_long) refl in
       (sym w.0, sym w.1)

@@ -7,10 +7,10 @@ use native.Mathlib.Omega.{arith}
 use borrow.Author.Tests.{eq-eqb, ne_eqb, eqb-true, eqb-false}
 use lib.Dec.{eqb}
 use lib.ListN.{length, length-append}
-use Rattle.bits.specs.Bits.{bits_n, bit_at, pos_of}
+use Rattle.bits.specs.Bits.{bits_n, bits_of, bit_at, pos_of}
 use Rattle.bits.specs.Format.{number}
 use Rattle.bits.specs.declared.BitPos.{BitPos}
-use Rattle.bits.proofs.Laws.{Bytes, bits_n_cat, length_with, with_none, with_more}
+use Rattle.bits.proofs.Laws.{bits_n_cat, length_bits_of, splice_none, splice_more}
 use Rattle.tables.specs.Tables.{mant_bits}
 use Rattle.tables.proofs.Rules.{mant_bits_lem}
 use Rattle.levels.specs.declared.Code.{Code}
@@ -18,11 +18,8 @@ use Rattle.levels.specs.Codes.{tag, small_bits, large_bits, code_bits, tagged, c
 use Rattle.levels.specs.Work.{word_of}
 use Rattle.levels.proofs.CodeLaws.{coded_one, coded_tagged}
 use Rattle.levels.proofs.Signed.{small_width, large_width}
-use Rattle.writer.specs.Work.{Room, Puts}
-
--- ---- positions
-pub bit_of_lem : (k : ℕ) → bit_at (pos_of k) ≡ k
-bit_of_lem k = omega arith
+use Rattle.writer.specs.Puts.{Room, Puts}
+use Rattle.writer.specs.declared.FieldWriter.{FieldWriter}
 
 -- ---- the bits of a code, by its kind
 module _ (m g : ℕ) where
@@ -61,76 +58,65 @@ word_width h g c low high =
     go (Code.Small u) p q r = omega arith
     go (Code.Large u) p q r = either (mant_bits h) (small_bits (mant_bits h) g) (large_bits (mant_bits h) g) (eqb g 1) p q r
 
--- what a write answers is the position of its bit
-pub named : (q : BitPos) (k : ℕ) → q ≡ pos_of k → q ≡ pos_of (bit_at q)
-named q k e = e ∙ ap pos_of (sym (bit_of_lem k) ∙ sym (ap bit_at e))
-
-pub own : (p : BitPos) → p.bit < 8 → p ≡ pos_of (bit_at p)
-own p h =
-    let b : p.byte ≡ bit_at p / 8 = omega arith in
-    let c : p.bit ≡ bit_at p % 8 = omega arith in
+-- a position whose bit is below 8 is told by the bit that it names
+pub named : (q : BitPos) (k : ℕ) → q.bit < 8 → bit_at q ≡ k → q ≡ pos_of k
+named q k h e =
+    let b : q.byte ≡ k / 8 = omega arith in
+    let c : q.bit ≡ k % 8 = omega arith in
     λ i. record { byte = b i; bit = c i }
 
-pub bit_small : (q : BitPos) → q ≡ pos_of (bit_at q) → q.bit < 8
-bit_small q e = rw e (omega arith)
-
 -- ---- bits put, none and one list behind the other
-pub puts_none : (s : List ℕ) (p : BitPos) → Bytes s → p.bit < 8 → Puts [] p p s s
-puts_none s p b h = record { place = own p h ∙ ap pos_of (omega arith); bytes = sym (with_none s (bit_at p) b) }
+pub puts_none : (w : FieldWriter) → Puts [] w w
+puts_none w = record { place = omega arith; long = refl; bits = sym (splice_none (bits_of w.out.now) (bit_at w.pos)); same_output = refl }
 
-module _ {a : List Bool} {p q : BitPos} {s t : List ℕ} (f : Puts a p q s t) where
-  pub place_is : bit_at q ≡ bit_at p + length a
-  place_is = ap bit_at f.place ∙ bit_of_lem (bit_at p + length a)
-
-  pub puts_long : length t ≡ length s
-  puts_long = ap length f.bytes ∙ length_with s (bit_at p) a
-
-  pub puts_bit : q.bit < 8
-  puts_bit = bit_small q (named q (bit_at p + length a) f.place)
-
-  pub puts_both : (b : List Bool) (r : BitPos) (u : List ℕ) → bit_at p + (length a + length b) ≤ 8 * length s → Puts b q r t u → Puts (a ++ b) p r s u
-  puts_both b r u room g =
-      let k = place_is in
-      let n = length-append a b in
-      record {
-        place = g.place ∙ ap pos_of (omega arith);
-        bytes = g.bytes ∙ rw (f.bytes, k) (with_more s a b (bit_at p) room);
-      }
+pub puts_both : {a b : List Bool} {w u v : FieldWriter} → Room (a ++ b) w → Puts a w u → Puts b u v → Puts (a ++ b) w v
+puts_both {a} {b} {w} room f g =
+    let n = length-append a b in
+    let m = length_bits_of w.out.now in
+    let k = f.place in
+    let l = g.place in
+    record {
+      place = omega arith;
+      long = g.long ∙ f.long;
+      bits = g.bits ∙ rw (f.bits, k) (splice_more (bits_of w.out.now) a b (bit_at w.pos) (omega arith));
+      same_output = g.same_output ∙ f.same_output;
+    }
 
 -- ---- a loop that writes a list of bits: what is written, and what is left of the whole
-pub record Left (s out : List ℕ) (p q : BitPos) (rest whole : List Bool) : Type 0 where
+pub record Left (start now : FieldWriter) (rest whole : List Bool) : Type 0 where
   pub before : List Bool
-  pub wrote : Puts before p q s out
+  pub wrote : Puts before start now
   pub parts : before ++ rest ≡ whole
 
-pub left_all : (s : List ℕ) (p : BitPos) (whole : List Bool) → Bytes s → p.bit < 8 → Left s s p p whole whole
-left_all s p whole b h = record { before = []; wrote = puts_none s p b h; parts = refl }
+pub left_all : (w : FieldWriter) (whole : List Bool) → Left w w whole whole
+left_all w whole = record { before = []; wrote = puts_none w; parts = refl }
 
 -- what a turn writes, and what is left behind it
 pub record Next (rest b rest' : List Bool) : Type 0 where
   pub is : rest ≡ b ++ rest'
 
-module _ {s out : List ℕ} {p q : BitPos} {rest whole b rest' : List Bool} (l : Left s out p q rest whole) (r : Next rest b rest') (room : Room whole p s) where
+module _ {start now : FieldWriter} {rest whole b rest' : List Bool} (l : Left start now rest whole) (r : Next rest b rest') (room : Room whole start) where
   left_long : length l.before + (length b + length rest') ≡ length whole
   left_long = ap (λ (k : ℕ). length l.before + k) (sym (length-append b rest') ∙ sym (ap length r.is)) ∙ sym (length-append l.before rest) ∙ ap length l.parts
 
-  pub left_room : Room b q out
+  pub left_room : Room b now
   left_room =
       let k = left_long in
-      let f = puts_long l.wrote in
-      let g = place_is l.wrote in
+      let f = l.wrote.long in
+      let g = l.wrote.place in
       omega arith
 
-  pub left_next : (out' : List ℕ) (q' : BitPos) → Puts b q q' out out' → Left s out' p q' rest' whole
-  left_next out' q' w =
+  pub left_next : (after : FieldWriter) → Puts b now after → Left start after rest' whole
+  left_next after w =
       let k = left_long in
+      let n = length-append l.before b in
       record {
         before = l.before ++ b;
-        wrote = puts_both l.wrote b q' out' (omega arith) w;
+        wrote = puts_both (omega arith) l.wrote w;
         parts = append_assoc l.before b rest' ∙ ap (λ (t : List Bool). l.before ++ t) (sym r.is) ∙ l.parts;
       }
 
-pub left_none : {s out : List ℕ} {p q : BitPos} {rest whole : List Bool} → Left s out p q rest whole → rest ≡ [] → Puts whole p q s out
-left_none {s} {out} {p} {q} l r =
+pub left_none : {start now : FieldWriter} {rest whole : List Bool} → Left start now rest whole → rest ≡ [] → Puts whole start now
+left_none {start} {now} l r =
     let a : l.before ≡ _ = sym (append-nil l.before) ∙ ap (λ (t : List Bool). l.before ++ t) (sym r) ∙ l.parts in
-    subst (λ (bs : List Bool). Puts bs p q s out) a l.wrote
+    subst (λ (bs : List Bool). Puts bs start now) a l.wrote

@@ -14,6 +14,7 @@ use Rattle.bits.specs.Format.{number, each_enc}
 use Rattle.tables.specs.Tables.{vq_bits, book}
 use Rattle.tables.proofs.Rules.{vq_most}
 use Rattle.books.specs.Books.{distance_of, search_from, nearest_in, search_of}
+use Rattle.channel.specs.declared.bins.Bins.{Bins}
 use Rattle.channel.specs.Row.{six_of}
 use Rattle.channel.specs.Field.{gain_code, packed, group_words, gain_words, lenient, bin_at}
 use Rattle.channel.proofs.Over.{over_next, over_end}
@@ -89,14 +90,14 @@ unfolding each_enc
 codes_end h g x j l = ap (codes_for h g) (drop_of_length-le x l)
 
 -- ---- the bins
-module _ (mode : ℕ) (gains row : List ℕ) (x : List Float) (start end k : ℕ) where
-  pub bins_next : k < end → bins_enc mode gains row x start end k ≡ bin_enc (bin_at mode gains row start k) (six_of x k) ++ bins_enc mode gains row x start end (k + 1)
+module _ (mode : ℕ) (gains : List ℕ) (b : Bins) (x : List Float) (k : ℕ) where
+  pub bins_next : k < b.end → bins_enc mode gains b x k ≡ bin_enc (bin_at mode gains b.row.now b.start k) (six_of x k) ++ bins_enc mode gains b x (k + 1)
   unfolding each_enc
-  bins_next l = rw (over_next (bin_at mode gains row start) k end l, over_next (written_at mode gains row x start) k end l)
+  bins_next l = rw (over_next (bin_at mode gains b.row.now b.start) k b.end l, over_next (written_at mode gains b.row.now x b.start) k b.end l)
 
-  pub bins_end : end ≤ k → bins_enc mode gains row x start end k ≡ []
+  pub bins_end : b.end ≤ k → bins_enc mode gains b x k ≡ []
   unfolding each_enc
-  bins_end l = rw (over_end (bin_at mode gains row start) k end l)
+  bins_end l = rw (over_end (bin_at mode gains b.row.now b.start) k b.end l)
 
 -- ---- the search's index fits its bits, whatever the vector
 search_most : (f : ℕ → Float) (m n k best : ℕ) (d : Float) → best ≤ m → k + n ≤ m → search_from f n k best d ≤ m

@@ -1,45 +1,26 @@
 // The writer: the field of a plan put into an output, a code and a gain word at a time.
 #![tactic(auto)]
 
-ghost use Rattle.std.specs.Prelude.{◌≡◌, ◌*◌, ◌<◌, ◌≤◌, false, length, drop};
+ghost use Rattle.std.specs.Prelude.{◌≡◌, ◌*◌, ◌<◌, ◌≤◌, length, drop};
 ghost use Rattle.bits.specs.Bits.{bits_n, bit_at};
-ghost use Rattle.channel.specs.Row.{RowOk};
-ghost use Rattle.channel.specs.Field.{gain_code, packed, book, scalar, bin_of, field};
+ghost use Rattle.channel.specs.Field.{gain_code, packed, book, scalar, bin_of};
 ghost use Rattle.planner.specs.Choice.{Choice};
-ghost use Rattle.planner.specs.Work.{Within};
-ghost use Rattle.writer.specs.Written.{written_of, channel_write, channel_written};
-ghost use Rattle.writer.specs.Work.{Room, Puts, bin_enc, bins_enc, gains_enc, code_from};
+ghost use Rattle.writer.specs.Written.{channel_write, channel_written};
+ghost use Rattle.writer.specs.Work.{bin_enc, bins_enc, gains_enc, choice_enc, code_from};
 
 use answers::Refusal;
 use bits::BitPos;
+use channel::bins::Bins;
 use gains::Coding;
 use planner::Plan;
 use quantiser::Steps;
 
-// The low n bits of v, where there is room for them; the position behind them.
-fn put(out: &mut [u8], p: BitPos, v: u32, n: u32) -> BitPos
-    requires n_bound { n ≤ 32 }
-    requires room { Room (bits_n n v) p out.old }
-    ensures { Puts (bits_n n v) p result out.old out.new }
-{
-    p.write_u32(&mut *out, v, n).unwrap()
-}
-
-// The quantiser's codes for the six components of a bin, where there is room for them; the position behind them.
-fn write_six(out: &mut [u8], p: BitPos, hebap: u8, gk: u8, x: &[f32]) -> BitPos
-    requires le_hebap { (8 ≤ hebap) × (hebap ≤ 19) }
-    requires x_len { length x.now ≡ 6 }
-    requires bit_bound { p.bit < 8 }
-    requires room { Room (bin_enc (scalar hebap gk) x.now) p out.old }
-    ensures { Puts (bin_enc (scalar hebap gk) x.now) p result out.old out.new }
-{
-    let steps = Steps::new(hebap, gk);
-    let mut q = p;
-    for &component in x {
-        let w = steps.word(component);
-        q = put(&mut *out, q, w.bits, w.width);
-    }
-    q
+// The output, and the position that the next bit goes to.
+#[derive(Drop)]
+struct FieldWriter<'a> {
+    out: &'a mut [u8],
+    pos: BitPos,
+    ghost bit_small: { pos.bit < 8 },
 }
 
 // The code of a gain that a mode has: 0 for Gk 1, and 1, but 2 for Gk 4 in mode 3.
@@ -52,20 +33,6 @@ fn gain_code(gk: u8, mode: u8) -> u32
         (3, _) => 2,
         _ => 1,
     }
-}
-
-// The gain words of mode 1 or 2, a bit for each gain, where there is room for them; the position behind them.
-fn write_gain_bits(out: &mut [u8], p: BitPos, mode: u8, gains: &[u8]) -> BitPos
-    requires le_mode { (1 ≤ mode) × (mode ≤ 2) }
-    requires bit_bound { p.bit < 8 }
-    requires room { Room (gains_enc mode gains.now) p out.old }
-    ensures { Puts (gains_enc mode gains.now) p result out.old out.new }
-{
-    let mut q = p;
-    for &gk in gains {
-        q = put(&mut *out, q, gain_code(gk, mode), 1);
-    }
-    q
 }
 
 // The code of the gain at the place i; 0 behind the last, for the missing codes of the last group.
@@ -86,115 +53,133 @@ fn word_of(group: &[u8]) -> u32
     gains::pack(code_at(group, 0), code_at(group, 1), code_at(group, 2))
 }
 
-// Mode 3: a word of five bits for three gains, where there is room for them; the position behind them.
-fn write_group_words(out: &mut [u8], p: BitPos, gains: &[u8]) -> BitPos
-    requires bit_bound { p.bit < 8 }
-    requires room { Room (gains_enc 3 gains.now) p out.old }
-    ensures { Puts (gains_enc 3 gains.now) p result out.old out.new }
-{
-    let mut q = p;
-    for group in gains.chunks(3) {
-        q = put(&mut *out, q, word_of(group), 5);
+// Each `put` and `write` writes a part of the field, where there is room for it.
+impl<'a> FieldWriter<'a> {
+    ghost use Rattle.writer.specs.Puts.{Room, Puts};
+
+    // From a position on, whose bit may be above 7.
+    fn new(out: &'a mut [u8], pos: BitPos) -> FieldWriter<'a>
+        requires inside { bit_at pos ≤ 8 * length out.now }
+        ensures place { bit_at result.pos ≡ bit_at pos }
+        ensures same_output { result.out.ghost_name ≡ out.entry.ghost_name }
+        ensures bytes { result.out.now ≡ out.old }
+    {
+        FieldWriter {
+            out,
+            pos: pos.advance(1, 0),
+        }
     }
-    q
-}
 
-// The index that the search picks for a bin, where there is room for it; the position behind it.
-fn write_index(out: &mut [u8], p: BitPos, hebap: u8, x: &[f32]) -> BitPos
-    requires le_hebap { (1 ≤ hebap) × (hebap ≤ 7) }
-    requires x_len { length x.now ≡ 6 }
-    requires room { Room (bin_enc (book hebap) x.now) p out.old }
-    ensures { Puts (bin_enc (book hebap) x.now) p result out.old out.new }
-{
-    let i = books::search(hebap, x);
-    put(out, p, i as u32, tables::vq_bits(hebap) as u32)
-}
-
-// What stands in the field for a bin, where there is room for it; the position behind it.
-fn write_bin(out: &mut [u8], p: BitPos, mode: u8, hebap: u8, gk: u8, x: &[f32]) -> BitPos
-    requires hebap_bound { hebap ≤ 19 }
-    requires bit_bound { p.bit < 8 }
-    requires x_len { length x.now ≡ 6 }
-    requires room { Room (bin_enc (bin_of mode hebap gk) x.now) p out.old }
-    ensures { Puts (bin_enc (bin_of mode hebap gk) x.now) p result out.old out.new }
-{
-    match gains::coding_of(mode, hebap) {
-        Coding::Nothing => p,
-        Coding::Book => write_index(out, p, hebap, x),
-        Coding::Fixed => write_six(out, p, hebap, 1, x),
-        Coding::Adaptive => write_six(out, p, hebap, gk, x),
+    // The low n bits of v. Inlined, since a call for each code would take the position through memory.
+    #[inline(always)]
+    fn put(&mut self, v: u32, n: u32)
+        requires n_bound { n ≤ 32 }
+        requires room { Room (bits_n n v) self.old }
+        ensures { Puts (bits_n n v) self.old self.new }
+    {
+        self.pos = self.pos.write_u32(self.out, v, n).unwrap();
     }
-}
 
-// The gain words of a mode, where there is room for them; the position behind them.
-fn write_gains(out: &mut [u8], p: BitPos, mode: u8, gains: &[u8]) -> BitPos
-    requires mode_bound { mode ≤ 3 }
-    requires bit_bound { p.bit < 8 }
-    requires room { Room (gains_enc mode gains.now) p out.old }
-    ensures { Puts (gains_enc mode gains.now) p result out.old out.new }
-{
-    match mode {
-        0 => p,
-        3 => write_group_words(out, p, gains),
-        _ => write_gain_bits(out, p, mode, gains),
+    // The quantiser's codes for the six components of a bin.
+    fn write_six(&mut self, hebap: u8, gk: u8, x: &[f32])
+        requires le_hebap { (8 ≤ hebap) × (hebap ≤ 19) }
+        requires x_len { length x.now ≡ 6 }
+        requires room { Room (bin_enc (scalar hebap gk) x.now) self.old }
+        ensures { Puts (bin_enc (scalar hebap gk) x.now) self.old self.new }
+    {
+        let steps = Steps::new(hebap, gk);
+        for &component in x {
+            let w = steps.word(component);
+            self.put(w.bits, w.width);
+        }
     }
-}
 
-// What stands in the field for the bins start to end - 1, where there is room for it; the position behind it.
-fn write_bins(
-    out: &mut [u8],
-    p: BitPos,
-    mode: u8,
-    row: &[u8],
-    start: usize,
-    end: usize,
-    x: &[f32],
-    gains: &[u8],
-) -> BitPos
-    requires row_ok { RowOk row.now start end }
-    requires end_in_bounds { 6 * end ≤ length x.now }
-    requires bit_bound { p.bit < 8 }
-    requires room { Room (bins_enc mode gains.now row.now x.now start end start) p out.old }
-    ensures { Puts (bins_enc mode gains.now row.now x.now start end start) p result out.old out.new }
-{
-    let mut q = p;
-    let mut n: usize = 0;
-    for bin in start..end {
-        let hebap = row[bin];
-        let a = 6 * bin;
-        q = write_bin(
-            &mut *out,
-            q,
-            mode,
-            hebap,
-            channel::gain_at(gains, n),
-            &x[a..a + 6],
-        );
-        n += channel::gains_used(mode, hebap);
+    // The gain words of mode 1 or 2, a bit for each gain.
+    fn write_gain_bits(&mut self, mode: u8, gains: &[u8])
+        requires le_mode { (1 ≤ mode) × (mode ≤ 2) }
+        requires room { Room (gains_enc mode gains.now) self.old }
+        ensures { Puts (gains_enc mode gains.now) self.old self.new }
+    {
+        for &gk in gains {
+            self.put(gain_code(gk, mode), 1);
+        }
     }
-    q
-}
 
-// The field of a choice, where there is room for it; the position behind it.
-fn write_field(
-    out: &mut [u8],
-    p: BitPos,
-    mode: u8,
-    gains: &[u8],
-    row: &[u8],
-    start: usize,
-    end: usize,
-    x: &[f32],
-) -> BitPos
-    requires within { Within row.now start end x.now }
-    requires choice { Choice mode gains.now row.now start end }
-    requires room { Room ((field row.now start end).enc (written_of mode gains.now row.now x.now start end)) p out.old }
-    ensures { Puts ((field row.now start end).enc (written_of mode gains.now row.now x.now start end))
-        p result out.old out.new }
-{
-    let q = put(&mut *out, p, mode as u32, 2);
-    let r = write_gains(&mut *out, q, mode, gains);
-    write_bins(out, r, mode, row, start, end, x, gains)
+    // Mode 3: a word of five bits for three gains.
+    fn write_group_words(&mut self, gains: &[u8])
+        requires { Room (gains_enc 3 gains.now) self.old }
+        ensures { Puts (gains_enc 3 gains.now) self.old self.new }
+    {
+        for group in gains.chunks(3) {
+            self.put(word_of(group), 5);
+        }
+    }
+
+    // The index that the search picks for a bin.
+    fn write_index(&mut self, hebap: u8, x: &[f32])
+        requires le_hebap { (1 ≤ hebap) × (hebap ≤ 7) }
+        requires x_len { length x.now ≡ 6 }
+        requires room { Room (bin_enc (book hebap) x.now) self.old }
+        ensures { Puts (bin_enc (book hebap) x.now) self.old self.new }
+    {
+        let i = books::search(hebap, x);
+        self.put(i as u32, tables::vq_bits(hebap) as u32)
+    }
+
+    // What stands in the field for a bin.
+    fn write_bin(&mut self, mode: u8, hebap: u8, gk: u8, x: &[f32])
+        requires hebap_bound { hebap ≤ 19 }
+        requires x_len { length x.now ≡ 6 }
+        requires room { Room (bin_enc (bin_of mode hebap gk) x.now) self.old }
+        ensures { Puts (bin_enc (bin_of mode hebap gk) x.now) self.old self.new }
+    {
+        match gains::coding_of(mode, hebap) {
+            Coding::Nothing => {}
+            Coding::Book => self.write_index(hebap, x),
+            Coding::Fixed => self.write_six(hebap, 1, x),
+            Coding::Adaptive => self.write_six(hebap, gk, x),
+        }
+    }
+
+    // The gain words of a mode.
+    fn write_gains(&mut self, mode: u8, gains: &[u8])
+        requires mode_bound { mode ≤ 3 }
+        requires room { Room (gains_enc mode gains.now) self.old }
+        ensures { Puts (gains_enc mode gains.now) self.old self.new }
+    {
+        match mode {
+            0 => {}
+            3 => self.write_group_words(gains),
+            _ => self.write_gain_bits(mode, gains),
+        }
+    }
+
+    // What stands in the field for the bins of a row.
+    fn write_bins(&mut self, mode: u8, gains: &[u8], bins: Bins, x: &[f32])
+        requires end_in_bounds { 6 * bins.end ≤ length x.now }
+        requires room { Room (bins_enc mode gains.now bins x.now bins.start) self.old }
+        ensures { Puts (bins_enc mode gains.now bins.entry x.now bins.entry.start) self.old self.new }
+    {
+        let mut n: usize = 0;
+        for bin in bins.start..bins.end {
+            let hebap = bins.hebap(bin);
+            let a = 6 * bin;
+            self.write_bin(mode, hebap, channel::gain_at(gains, n), &x[a..a + 6]);
+            n += channel::gains_used(mode, hebap);
+        }
+    }
+
+    // The field of a choice.
+    fn write_field(&mut self, mode: u8, gains: &[u8], bins: Bins, x: &[f32])
+        requires end_in_bounds { 6 * bins.end ≤ length x.now }
+        requires choice { Choice mode gains.now bins.row.now bins.start bins.end }
+        requires room { Room (choice_enc mode gains.now bins x.now) self.old }
+        ensures { Puts (choice_enc mode gains.now bins.entry x.now) self.old self.new }
+    {
+        self.put(mode as u32, 2);
+        self.write_gains(mode, gains);
+        self.write_bins(mode, gains, bins, x)
+    }
 }
 
 // The field of the plan goes to the output from the position on. Refuses with 1 to 5, then 6, then 7; a refusal
@@ -216,5 +201,12 @@ pub fn write_aht_channel(
         return Err(Refusal::OutputFull);
     }
     let gains = &plan.gains[..plan.count];
-    Ok(write_field(out, pos, plan.mode, gains, hebap, start, end, x))
+    let mut writer = FieldWriter::new(out, pos);
+    let bins = Bins {
+        row: hebap,
+        start,
+        end,
+    };
+    writer.write_field(plan.mode, gains, bins, x);
+    Ok(writer.pos)
 }

@@ -3,7 +3,7 @@ use native.Mathlib.Omega.{arith}
 use borrow.Author.Rules.{rules}
 use borrow.Author.Tests.{leb-true, leb-false}
 use Prim.Native.Nat.{◌+◌, ◌*◌, ◌≤◌, ◌<◌}
-use mathlib.Core.Path.{◌≡◌, refl, sym, ◌∙◌}
+use mathlib.Core.Path.{◌≡◌, sym, ◌∙◌}
 use lib.ListN.{length}
 use lib.Seq.{length-take-le}
 use Rattle.std.specs.Prelude.{None}
@@ -14,7 +14,7 @@ use Rattle.planner.specs.Fit.{plan_cause}
 use Rattle.planner.proofs.Answer.{Fitting, plan_cause_none, plan_fitting}
 use Rattle.writer.specs.Written.{field_of}
 use Rattle.writer.proofs.Planned.{fits_long}
-use Rattle.writer.proofs.Call.{call_cause, call_short, call_good}
+use Rattle.writer.proofs.Call.{call_cause, call_short, call_put}
 use Rattle.writer.proofs.write_aht_channel.Goals as goal
 use Rattle.writer.proofs.write_aht_channel.Goals.{In_ok-check_plan, Else-not-has_bits}
 
@@ -59,15 +59,23 @@ slice_bounds-gains-end c = sym (length-take-le c.args.plan.count c.args.plan.gai
 pub shared_ref_as_front-gains : goal.shared_ref_as_front-gains
 shared_ref_as_front-gains c = let r = (fit (goal.at.shared_ref_as_front-gains c).In_ok-check_plan).room in search rules
 
+pub invariant_of-bins : goal.invariant_of-bins
+invariant_of-bins c = let r = (fit (goal.at.invariant_of-bins c).In_ok-check_plan).within.row_ok in
+    record { ordered = r.ordered; few = r.few; rows = r.rows; known = r.known }
+
 pub write_field-requires : goal.write_field-requires
 write_field-requires c =
     let d = goal.at.write_field-requires c in
     let f = fit d.In_ok-check_plan in
-    record { within = f.within; choice = f.choice; room = omega (arith, long d.In_ok-check_plan, room d.Else-not-has_bits) }
+    let w = c.new-writer.ensures in
+    record { end_in_bounds = f.within.vectors; choice = f.choice; room = rw (w.place, w.bytes) (omega (arith, long d.In_ok-check_plan, room d.Else-not-has_bits)) }
 
 pub returns : goal.returns
 returns c =
     let a = c.args in
     let d = goal.at.returns c in
-    let both = call_good a.plan a.hebap.now a.start a.end a.x.now a.out.now (bit_at a.pos) (none d.In_ok-check_plan) (room d.Else-not-has_bits) a.pos _ _ refl (long d.In_ok-check_plan) c.write_field.ensures in
+    let w = c.new-writer.ensures in
+    let both =
+    call_put a.plan a.hebap.now a.start a.end a.x.now a.out.now (bit_at a.pos) (none d.In_ok-check_plan) (room d.Else-not-has_bits) (long d.In_ok-check_plan) _ _ w.place w.bytes
+    c.write_field.ensures _ (search rules) (λ i k. (c.type_inv.out i).fits) in
     record { value = both.0; out_after = both.1 }

@@ -1,4 +1,4 @@
--- `writer::write_six` meets its contract. Assumes nothing.
+-- `writer::FieldWriter::write_six` meets its contract. Assumes nothing.
 use Prim.Native.Nat.{◌+◌}
 use mathlib.Core.Path.{◌≡◌, sym, ap, ◌∙◌}
 use mathlib.Core.List.{List, ◌++◌}
@@ -13,11 +13,11 @@ use Rattle.quantiser.specs.Quantise.{picked}
 use Rattle.quantiser.proofs.Facts.{picked_accepted}
 use Rattle.writer.proofs.Turns.{Next, left_all, left_room, left_next, left_none, word_bits_lem, word_width}
 use Rattle.writer.proofs.Words.{codes_for, codes_next, codes_end}
-use Rattle.writer.proofs.write_six.Goals as goal
-use Rattle.writer.proofs.write_six.Goals.{After-word-w}
+use Rattle.writer.proofs.FieldWriter.write_six.Goals as goal
+use Rattle.writer.proofs.FieldWriter.write_six.Goals.{After-word-w}
 
 pub loop-component-init : goal.loop-component-init
-loop-component-init c = left_all c.args.out.now c.args.p _ (λ i k. (c.type_inv.out i).fits) c.requires.bit_bound
+loop-component-init c = left_all c.args.self.now _
 
 -- the word that was made is that of the quantiser's code
 word_is : (c : After-word-w) → let a = c.args in
@@ -45,10 +45,10 @@ next_word c =
           ∙ ap (λ (bs : List Bool). bs ++ rest) (word_bits_lem a.hebap a.gk code (picked_accepted a.hebap a.gk y c.requires.le_hebap.0 c.requires.le_hebap.1) ∙ sym e);
     }
 
-pub put-q-requires : goal.put-q-requires
-put-q-requires c =
+pub put-requires : goal.put-requires
+put-requires c =
     let a = c.args in
-    let w = (goal.at.put-q-requires c).After-word-w in
+    let w = (goal.at.put-requires c).After-word-w in
     record {
       n_bound = rw (word_is w).1 (word_width a.hebap a.gk (picked a.hebap a.gk (get_or a.x.now c.loop-component.component-index nan)).0 c.requires.le_hebap.0 c.requires.le_hebap.1);
       room = left_room c.loop-component.invariant (next_word w) (rw c.requires.x_len c.requires.room);
@@ -56,7 +56,7 @@ put-q-requires c =
 
 pub loop-component-preserved : goal.loop-component-preserved
 loop-component-preserved c =
-    left_next c.loop-component.invariant (next_word (goal.at.loop-component-preserved c).After-word-w) (rw c.requires.x_len c.requires.room) _ _ c.put-q.ensures
+    left_next c.loop-component.invariant (next_word (goal.at.loop-component-preserved c).After-word-w) (rw c.requires.x_len c.requires.room) _ c.put.ensures
 
 pub returns : goal.returns
 returns c = let a = c.args in

@@ -1,11 +1,11 @@
--- `writer::write_index` meets its contract. Assumes nothing.
+-- `writer::FieldWriter::write_index` meets its contract. Assumes nothing.
 use native.Mathlib.Omega.{arith}
 use borrow.Author.Rules.{rules}
 use Rattle.tables.proofs.Rules.{vq_most}
 use Rattle.writer.proofs.Words.{search_few}
 use Rattle.bits.specs.Format.{number}
 use Rattle.bits.proofs.Laws.{length_bits_n}
-use Rattle.writer.proofs.write_index.Goals as goal
+use Rattle.writer.proofs.FieldWriter.write_index.Goals as goal
 
 pub overflow_cast-i : goal.overflow_cast-i
 overflow_cast-i c = let a = c.args in

@@ -1,9 +1,0 @@
--- `writer::write_bins` meets its contract. Assumes nothing.
-use mathlib.Core.Path.{◌≡◌}
-use Rattle.channel.specs.Row.{active_count}
-use Rattle.writer.specs.Work.{bins_enc}
-use Rattle.writer.proofs.Turns.{Left}
-use Rattle.writer.proofs.write_bins.Given as goal
-
-abbrev pub invariant-loop-bin : goal.invariant-loop-bin
-invariant-loop-bin l = (l.n ≡ active_count l.mode l.row l.start l.bin) × Left l.initial.out l.out l.initial.q l.q (bins_enc l.mode l.gains l.row l.x l.start l.end l.bin) (bins_enc l.mode l.gains l.row l.x l.start l.end l.start)

@@ -1,8 +1,0 @@
--- `writer::write_six` meets its contract. Assumes nothing.
-use lib.ListN.{drop}
-use Rattle.writer.proofs.Turns.{Left}
-use Rattle.writer.proofs.Words.{codes_for}
-use Rattle.writer.proofs.write_six.Given as goal
-
-abbrev pub invariant-loop-component : goal.invariant-loop-component
-invariant-loop-component l = Left l.initial.out l.out l.initial.q l.q (codes_for l.hebap l.gk (drop l.component-index l.x)) (codes_for l.hebap l.gk l.x)
