@@ -8,8 +8,8 @@ use native.Mathlib.Nat.{le_trans, le_of_eq}
 use native.Mathlib.Omega.{arith}
 use borrow.Author.Tests.{lt-leb, ne_eqb, eqb-true}
 use lib.Dec.{eqb, leb}
-use lib.ListN.{length, get_or, take, drop, length-take, length-drop}
-use lib.Seq.{take-suc, get_or-drop}
+use lib.ListN.{length, get_or, take, length-take}
+use lib.Seq.{take-suc, take_all}
 use lib.Ieee.{Float, nan}
 use Rattle.tables.specs.Tables.{mant_bits, vq_bits}
 use Rattle.tables.proofs.Rules.{mant_bits_lem, mant_none, vq_most}
@@ -33,19 +33,17 @@ unfolding codes_bits
 codes_last h g [] y = omega arith
 codes_last h g (z ∷ xs) y = let r = codes_last h g xs y in omega arith
 
-run_codes : (h g : ℕ) (x : List Float) (a n : ℕ) → a + n ≤ length x → sum_over (component_bits h g x) a (a + n) ≡ codes_bits h g (take n (drop a x))
+run_codes : (h g : ℕ) (v : List Float) (n : ℕ) → n ≤ length v → sum_over (component_bits h g v) 0 n ≡ codes_bits h g (take n v)
 unfolding component_bits codes_bits
-run_codes h g x a zero l = sum_none (component_bits h g x) a (a + 0) (omega arith)
-run_codes h g x a (suc n) l =
-    let e : a + suc n ≡ suc (a + n) = omega arith in
-    let b : n < length (drop a x) = rw length-drop (omega arith) in
-    ap (sum_over (component_bits h g x) a) e ∙ sum_next (component_bits h g x) a (a + n) (omega arith)
-    ∙ rw (take-suc (drop a x) n nan b, get_or-drop a x n nan, codes_last h g (take n (drop a x)) (get_or x (a + n) nan), run_codes h g x a n (omega arith))
+run_codes h g v zero l = sum_none (component_bits h g v) 0 0 (omega arith)
+run_codes h g v (suc n) l =
+    sum_next (component_bits h g v) 0 n (omega arith)
+    ∙ rw (take-suc v n nan l, codes_last h g (take n v) (get_or v n nan), run_codes h g v n (omega arith))
 
 -- The planner counts for a bin the bits that quantise_bin answers.
-pub six_codes : (h g : ℕ) (x : List Float) (a : ℕ) → a + 6 ≤ length x → six_bits h x a g ≡ codes_bits h g (take 6 (drop a x))
+pub six_codes : (h g : ℕ) (v : List Float) → length v ≡ 6 → six_bits h v g ≡ codes_bits h g v
 unfolding six_bits
-six_codes h g x a l = run_codes h g x a 6 l
+six_codes h g v six = run_codes h g v 6 (omega arith) ∙ ap (codes_bits h g) (take_all 6 v (omega arith))
 
 pub bin_scalar : (h g : ℕ) (v : List Float) → 8 ≤ h → bin_bits h g v ≡ codes_bits h g v
 unfolding bin_bits

@@ -7,8 +7,8 @@ use Prim.Native.Nat.{ℕ, ◌+◌, ◌*◌, ◌≤◌, ◌<◌}
 use native.Mathlib.Nat.{le_refl, le_trans}
 use native.Mathlib.Numerals.{add-one}
 use native.Mathlib.Omega.{arith}
-use lib.ListN.{length, get_or, drop, set, replicate, get_or-replicate}
-use lib.Seq.{drop-cons, set_at}
+use lib.ListN.{length, get_or, drop, length-drop, set, replicate, get_or-replicate}
+use lib.Seq.{drop-cons, set_at, length-take-le}
 use lib.Ieee.{Float}
 use Rattle.gains.specs.Gains.{active, other_gains, gain_word_bits}
 use Rattle.gains.proofs.Cases.{active_low, active_high}
@@ -64,7 +64,7 @@ module _ (row : List ℕ) (x : List Float) (start k plain mode : ℕ) (t : Tally
     tally_plain r room out er =
         let h = get_or row k 0 in
         let off : active mode h ≡ false = ⊎_elim (λ (l : h < 8). sym (active_low mode h l)) (λ (l : 16 < h). sym (active_high mode h l)) out in
-        let e : r ≡ least_at mode row x k = er ∙ plain_is h x (6 * k) room ∙ ap (λ (u : Bool). bin_bits h (cond u (best_gain mode row x k) 1) (six_of x k)) (sym off) in
+        let e : r ≡ least_at mode row x k = er ∙ plain_is h (six_of x k) (length-take-le 6 (drop (6 * k) x) (omega (arith, length-drop (6 * k) x))) ∙ ap (λ (u : Bool). bin_bits h (cond u (best_gain mode row x k) 1) (six_of x k)) (sym off) in
         let s = sum_turn (least_at mode row x) start k (plain + t.bits) r from is.bits_are e in
         record {
           bits_are = plus plain r t.bits ∙ s;

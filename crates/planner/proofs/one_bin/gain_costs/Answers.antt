@@ -19,14 +19,14 @@ pub overflow_sub-m-2 : goal.overflow_sub-m-2
 overflow_sub-m-2 c = let w = wide c in omega arith
 
 pub tagged_bits-requires : goal.tagged_bits-requires
-tagged_bits-requires c = let w = wide c in let p = c.requires.a_in_bounds in record { a_in_bounds = p; small_bound = (omega arith, omega arith) }
+tagged_bits-requires c = let w = wide c in record { six = c.requires.six; small_bound = (omega arith, omega arith) }
 
 pub overflow_sub-m-3 : goal.overflow_sub-m-3
 overflow_sub-m-3 c = let w = wide (goal.at.overflow_sub-m-3 c).After-limits_for-l in omega arith
 
 pub tagged_bits-requires-2 : goal.tagged_bits-requires-2
-tagged_bits-requires-2 c = let w = wide (goal.at.tagged_bits-requires-2 c).After-limits_for-l in let p = c.requires.a_in_bounds in record { a_in_bounds = p; small_bound = (omega arith, omega arith) }
+tagged_bits-requires-2 c = let w = wide (goal.at.tagged_bits-requires-2 c).After-limits_for-l in record { six = c.requires.six; small_bound = (omega arith, omega arith) }
 
 pub returns : goal.returns
-returns c = costs_are c.args.hebap c.args.x.now c.args.a c.mant-m.result c.mant-m.ensures c.requires.a_in_bounds c.limits_for-l.result c.requires.le_hebap.0 c.requires.le_hebap.1 c.limits_for-l.ensures c.shared_slice_known-1.given
+returns c = costs_are c.args.hebap c.args.x.now c.mant-m.result c.mant-m.ensures c.requires.six c.limits_for-l.result c.requires.le_hebap.0 c.requires.le_hebap.1 c.limits_for-l.ensures c.type_inv.x
     c.tagged_bits.result c.tagged_bits-2.result c.tagged_bits.ensures c.tagged_bits-2.ensures
