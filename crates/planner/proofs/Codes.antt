@@ -20,7 +20,8 @@ use Rattle.quantiser.proofs.Facts.{picked_bits}
 use Rattle.channel.specs.Bins.{sum_over}
 use Rattle.channel.proofs.Over.{sum_none, sum_next}
 use Rattle.planner.specs.Cost.{bin_bits}
-use Rattle.planner.specs.Work.{component_bits, six_bits, costs_of, cost_in, plain_bits}
+use Rattle.planner.specs.Work.{component_bits, six_bits, cost_in, CostsOf, plain_bits}
+use Rattle.planner.specs.declared.costs.Costs.{Costs}
 
 pub component_is : (h g : ℕ) (x : List Float) (i : ℕ) → component_bits h g x i ≡ scalar_bits h g (get_or x i nan)
 unfolding component_bits
@@ -61,14 +62,14 @@ codes_other h g (x ∷ v) p q =
     ap (λ (n : ℕ). n + codes_bits h g v) (picked_bits h g x ∙ scalar_other h g x p q ∙ sym (picked_bits h 4 x))
     ∙ ap (λ (n : ℕ). code_bits (mant_bits h) 4 (picked h 4 x).0 + n) (codes_other h g v p q)
 
-pub cost_is : (h g : ℕ) (v : List Float) → cost_in (costs_of h v) g ≡ codes_bits h g v
-unfolding cost_in costs_of
-cost_is h g v = go (eqb g 1) refl (eqb g 2) refl
+pub costs_of : (h : ℕ) (v : List Float) (c : Costs) → c.one ≡ codes_bits h 1 v → c.two ≡ codes_bits h 2 v → c.four ≡ codes_bits h 4 v → CostsOf h v c
+unfolding cost_in
+costs_of h v c e1 e2 e4 g = go (eqb g 1) refl (eqb g 2) refl
   where
-    go : (s : Bool) → eqb g 1 ≡ s → (t : Bool) → eqb g 2 ≡ t → cond s (codes_bits h 1 v) (cond t (codes_bits h 2 v) (codes_bits h 4 v)) ≡ codes_bits h g v
-    go true p t q = ap (λ (k : ℕ). codes_bits h k v) (sym (eqb-true g 1 p))
-    go false p true q = ap (λ (k : ℕ). codes_bits h k v) (sym (eqb-true g 2 q))
-    go false p false q = sym (codes_other h g v p q)
+    go : (s : Bool) → eqb g 1 ≡ s → (t : Bool) → eqb g 2 ≡ t → cond s c.one (cond t c.two c.four) ≡ codes_bits h g v
+    go true p t q = e1 ∙ ap (λ (k : ℕ). codes_bits h k v) (sym (eqb-true g 1 p))
+    go false p true q = e2 ∙ ap (λ (k : ℕ). codes_bits h k v) (sym (eqb-true g 2 q))
+    go false p false q = e4 ∙ sym (codes_other h g v p q)
 
 -- ---- bounds
 pub mant_most : (h : ℕ) → mant_bits h ≤ 16
@@ -87,7 +88,7 @@ scalar_most h g x = let m = mant_most h in go (eqb g 1) (is_small (small_bits (m
     go false false true m = omega arith
     go false false false m = omega arith
 
-codes_most : (h g : ℕ) (v : List Float) → codes_bits h g v ≤ 32 * length v
+pub codes_most : (h g : ℕ) (v : List Float) → codes_bits h g v ≤ 32 * length v
 unfolding codes_bits
 codes_most h g [] = omega arith
 codes_most h g (x ∷ v) = let e = picked_bits h g x in let s = scalar_most h g x in let r = codes_most h g v in omega arith
@@ -103,10 +104,6 @@ bin_most h g l = go (eqb h 0) (leb h 7)
     go true t = omega arith
     go false true = let v = vq_most h in omega arith
     go false false = six_most h g l
-
-pub costs_most : (h : ℕ) (l : List Float) → ((costs_of h (take 6 l)).one ≤ 256) × ((costs_of h (take 6 l)).two ≤ 256) × ((costs_of h (take 6 l)).four ≤ 256)
-unfolding costs_of
-costs_most h l = (six_most h 1 l, six_most h 2 l, six_most h 4 l)
 
 pub plain_most : (h : ℕ) → plain_bits h ≤ 256
 unfolding plain_bits

@@ -18,10 +18,10 @@ use Rattle.channel.specs.Bins.{sum_over}
 use Rattle.channel.proofs.Over.{one_small, sum_none, sum_next, sum_le, sum_grows}
 use Rattle.planner.specs.Cost.{bin_bits}
 use Rattle.planner.specs.Choice.{cheaper, cheapest, least_up_to}
-use Rattle.planner.specs.Work.{size_of, limit_of, limits_of, component_bits, six_bits, tag_at, tagged_bits, costs_of, cost_in, gain_in, plain_bits}
-use Rattle.planner.specs.declared.Costs.{Costs}
+use Rattle.planner.specs.Work.{size_of, limit_of, limits_of, component_bits, six_bits, tag_at, tagged_bits, cost_in, CostsOf, gain_in, plain_bits}
+use Rattle.planner.specs.declared.costs.Costs.{Costs}
 use Rattle.planner.specs.declared.Limits.{Limits}
-use Rattle.planner.proofs.Codes.{component_is, six_codes, codes_other}
+use Rattle.planner.proofs.Codes.{component_is, six_codes, codes_other, costs_of, codes_most}
 use Rattle.planner.proofs.Escape.{escape}
 
 -- a component of the size s: small codes have the bits small, the large code behind the tag has the bits large
@@ -120,10 +120,15 @@ module _ (h : ℕ) (v : List Float) (m : ℕ) (em : m ≡ mant_bits h) (six : le
         sym (sum_counted (component_bits h 4 v) (λ k. le l.four (size_of (get_or v k nan))) (m - 2) m 0 6 (λ k. component_is h 4 v k ∙ four_is h m (get_or v k nan) low high em (f k) l el))
         ∙ six_codes h 4 v six
 
-    pub costs_are : (two four : ℕ) → two ≡ tagged_bits v l.two (m - 1) (m - 1) → four ≡ tagged_bits v l.four (m - 2) m
-        → ◌≡◌ {A = Costs} (record { one = 6 * m; two = two; four = four }) (costs_of h v)
-    unfolding costs_of
-    costs_are two four e2 e4 = rw (six_1, e2 ∙ six_2, e4 ∙ six_4)
+    pub costs_few : (two four : ℕ) → two ≡ tagged_bits v l.two (m - 1) (m - 1) → four ≡ tagged_bits v l.four (m - 2) m → (6 * m ≤ 256) × (two ≤ 256) × (four ≤ 256)
+    costs_few two four e2 e4 =
+        let a = six_1 in
+        let b = e2 ∙ six_2 in
+        let c = e4 ∙ six_4 in
+        (omega (arith, codes_most h 1 v), omega (arith, codes_most h 2 v), omega (arith, codes_most h 4 v))
+
+    pub costs_are : (c : Costs) → c.one ≡ 6 * m → c.two ≡ tagged_bits v l.two (m - 1) (m - 1) → c.four ≡ tagged_bits v l.four (m - 2) m → CostsOf h v c
+    costs_are c e1 e2 e4 = costs_of h v c (e1 ∙ six_1) (e2 ∙ six_2) (e4 ∙ six_4)
 
     -- ---- at one gain
     pub bits_1 : (g : ℕ) → g ≡ 1 → 6 * m ≡ codes_bits h g v
@@ -188,14 +193,14 @@ pub gain_none : (mode : ℕ) (c : Costs) → (mode ≡ 1 → ⊥) → (mode ≡ 
 unfolding gain_in cheapest other_gains
 gain_none mode c p q r = sym (rw (ne_eqb mode 1 p, ne_eqb mode 2 q, ne_eqb mode 3 r))
 
-pub cost_small : (c : Costs) (g : ℕ) → (c.one ≤ 256) × (c.two ≤ 256) × (c.four ≤ 256) → cost_in c g ≤ 256
+pub cost_small : (c : Costs) (g : ℕ) → cost_in c g ≤ 256
 unfolding cost_in
-cost_small c g p = go (eqb g 1) (eqb g 2)
+cost_small c g = go (eqb g 1) (eqb g 2)
   where
     go : (s t : Bool) → cond s c.one (cond t c.two c.four) ≤ 256
-    go true t = p.0
-    go false true = p.1
-    go false false = p.2
+    go true t = c.few.0
+    go false true = c.few.1
+    go false false = c.few.2
 
 -- ---- the loop over six components
 pub tagged_most : (limit : Float) (v : List Float) (i t : ℕ) → i ≤ 6 → t ≡ sum_over (tag_at limit v) 0 i → t ≤ 6

@@ -11,7 +11,7 @@ use Rattle.quantiser.specs.Quantise.{picked, codes_bits}
 use Rattle.channel.specs.Bins.{sum_over}
 use Rattle.channel.specs.Row.{no_gains, active_count, RowOk}
 use Rattle.planner.specs.Choice.{cheapest, least_at, gains_over}
-use Rattle.planner.specs.declared.Costs.{Costs}
+use Rattle.planner.specs.declared.costs.Costs.{Costs}
 use Rattle.planner.specs.declared.Limits.{Limits}
 use Rattle.planner.specs.declared.tally.Tally.{Tally}
 
@@ -44,12 +44,12 @@ tag_at limit v i = cond (le limit (size_of (get_or v i nan))) 1 0
 unfoldable pub tagged_bits : List Float → Float → ℕ → ℕ → ℕ
 tagged_bits v limit small large = 6 * small + sum_over (tag_at limit v) 0 6 * large
 
--- six components at Gk 1, 2 and 4
-unfoldable pub costs_of : ℕ → List Float → Costs
-costs_of h v = record { one = codes_bits h 1 v; two = codes_bits h 2 v; four = codes_bits h 4 v }
-
 unfoldable pub cost_in : Costs → ℕ → ℕ
 cost_in c g = cond (eqb g 1) c.one (cond (eqb g 2) c.two c.four)
+
+-- those of the codes of six components
+abbrev pub CostsOf : ℕ → List Float → Costs → Type 0
+CostsOf h v c = (g : ℕ) → cost_in c g ≡ codes_bits h g v
 
 unfoldable pub gain_in : ℕ → Costs → ℕ
 gain_in mode c = cheapest (cost_in c) 1 (other_gains mode)

@@ -9,6 +9,7 @@ ghost use Rattle.answers.specs.Answers.{answered};
 use answers::Refusal;
 use channel::bins::Bins;
 
+mod costs;
 mod fit;
 mod one_bin;
 mod tally;
@@ -25,14 +26,6 @@ pub struct Plan {
     pub gains: [u8; 256],
     pub count: usize,
     pub payload: u32,
-}
-
-// The bits of a bin's six codes at each gain.
-#[derive(Clone, Copy)]
-pub struct Costs {
-    pub one: u32,
-    pub two: u32,
-    pub four: u32,
 }
 
 // The sizes from which on a component takes the tag and a large code.

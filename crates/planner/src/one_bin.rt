@@ -3,10 +3,10 @@ ghost use Rattle.std.specs.Prelude.{◌≡◌, cond, ◌≤◌, length};
 ghost use Rattle.gains.specs.Gains.{active};
 ghost use Rattle.quantiser.specs.Quantise.{codes_bits};
 ghost use Rattle.planner.specs.Cost.{bin_bits};
-ghost use Rattle.planner.specs.Choice.{cheaper};
-ghost use Rattle.planner.specs.Work.{size_of, limits_of, tagged_bits, costs_of, cost_in, gain_in, plain_bits};
+ghost use Rattle.planner.specs.Work.{size_of, limits_of, tagged_bits, CostsOf, plain_bits};
 
-use super::{Costs, Limits};
+use super::Limits;
+use super::costs::Costs;
 
 fn limits_for(hebap: u8) -> Limits
     requires { (8 ≤ hebap) × (hebap ≤ 16) }
@@ -74,10 +74,11 @@ fn tagged_bits(x: &[f32], limit: f32, small: u32, large: u32) -> u32
 }
 
 // The bits of six components at each gain.
+#[tactic(auto, using(crate::proofs::Steps::width, crate::proofs::Steps::costs_few, crate::proofs::Steps::costs_are))]
 pub fn gain_costs(hebap: u8, x: &[f32]) -> Costs
     requires le_hebap { (8 ≤ hebap) × (hebap ≤ 16) }
     requires six { length x.now ≡ 6 }
-    ensures { result ≡ costs_of hebap x.now }
+    ensures { CostsOf hebap x.now result }
 {
     let m = levels::mant(hebap);
     let l = limits_for(hebap);
@@ -85,38 +86,6 @@ pub fn gain_costs(hebap: u8, x: &[f32]) -> Costs
         one: 6 * m,
         two: tagged_bits(x, l.two, m - 1, m - 1),
         four: tagged_bits(x, l.four, m - 2, m),
-    }
-}
-
-pub fn cost_at(c: Costs, gain: u8) -> u32
-    ensures { result ≡ cost_in c gain }
-{
-    match gain {
-        1 => c.one,
-        2 => c.two,
-        _ => c.four,
-    }
-}
-
-fn cheaper_gain(c: Costs, gain: u8, next: u8) -> u8
-    ensures { result ≡ cheaper (cost_in c) gain next }
-{
-    if cost_at(c, next) < cost_at(c, gain) {
-        next
-    } else {
-        gain
-    }
-}
-
-// The cheapest gain that the mode allows, the lower one of equals.
-pub fn best_gain(mode: u8, c: Costs) -> u8
-    ensures { result ≡ gain_in mode c }
-{
-    match mode {
-        1 => cheaper_gain(c, 1, 2),
-        2 => cheaper_gain(c, 1, 4),
-        3 => cheaper_gain(c, cheaper_gain(c, 1, 2), 4),
-        _ => 1,
     }
 }
 

@@ -3,8 +3,9 @@ ghost use Rattle.std.specs.Prelude.{◌≡◌, ℕ, ◌+◌, ◌<◌, ◌≤◌,
 ghost use Rattle.planner.specs.Choice.{least_up_to};
 ghost use Rattle.planner.specs.Work.{no_tally, tally_at, with_bin, Small, AllSmall, TalliesOf, AllFew, payload_in, payload_at};
 
+use super::costs::Costs;
+use super::one_bin;
 use super::vectors::BinVectors;
-use super::{Costs, one_bin};
 
 // One mode: the bits of the bins of hebap 8 to 16, how many of them are active, and their gains, then zeros.
 #[derive(Clone, Copy)]
@@ -29,15 +30,14 @@ impl Tally {
     // One bin more: its bits at the cheapest gain, and where it is active that gain behind the gains before it.
     #[tactic(auto, using(crate::proofs::Steps::cost_small))]
     fn add(&mut self, mode: u8, hebap: u8, c: Costs)
-        requires small { Small self.old }
-        requires one_bound { (c.one ≤ 256) × (c.two ≤ 256) × (c.four ≤ 256) }
+        requires { Small self.old }
         ensures { self.new ≡ with_bin mode hebap c self.old }
     {
         if gains::is_active(mode, hebap) {
-            let gain = one_bin::best_gain(mode, c);
+            let gain = c.best_gain(mode);
             self.gains[self.count as usize] = gain;
             self.count += 1;
-            self.bits += one_bin::cost_at(c, gain);
+            self.bits += c.at(gain);
         } else {
             self.bits += c.one;
         }
@@ -54,8 +54,7 @@ impl Tally {
 
 // One bin in every mode.
 fn tally_bin(hebap: u8, c: Costs, tallies: &mut [Tally; 4])
-    requires all_small { AllSmall tallies.old }
-    requires one_bound { (c.one ≤ 256) × (c.two ≤ 256) × (c.four ≤ 256) }
+    requires { AllSmall tallies.old }
     ensures { (m : ℕ) → m ≤ 3 → tally_at tallies.new m ≡ with_bin m hebap c (tally_at tallies.old m) }
 {
     for mode in 0..4 {

@@ -1,9 +1,9 @@
 -- `planner::tally::tally_bins` meets its contract. Assumes nothing.
-use Prim.Native.Nat.{◌*◌, ◌<◌}
+use Prim.Native.Nat.{◌<◌}
 use mathlib.Core.Logic.{◌⊎◌, inl, inr}
 use native.Mathlib.Omega.{arith}
-use lib.ListN.{get_or, drop}
-use Rattle.planner.proofs.Codes.{costs_most, plain_most}
+use lib.ListN.{get_or}
+use Rattle.planner.proofs.Codes.{plain_most}
 use Rattle.planner.proofs.Tallies.{tallies_start, tally_few, tally_small, tally_plain, tally_next}
 use Rattle.planner.proofs.tally.tally_bins.Goals as goal
 use Rattle.planner.proofs.tally.tally_bins.Goals.{in-8-to-16, in_default, in_default-via-then-hebap-lt8, in_default-via-else-hebap-lt8+else-hebap-lt17}
@@ -11,11 +11,8 @@ use Rattle.planner.proofs.tally.tally_bins.Goals.{in-8-to-16, in_default, in_def
 pub loop-bin-init : goal.loop-bin-init
 loop-bin-init c = tallies_start c.args.v.bins.row.now c.args.v.x.now c.args.v.bins.start c.args.tallies.now c.requires
 
-pub tally_bin-requires-clause-all_small : goal.tally_bin-requires-clause-all_small
-tally_bin-requires-clause-all_small c m l = tally_small c.args.v.bins.row.now c.args.v.x.now c.args.v.bins.start c.loop-bin.bin c.loop-bin.plain m _ (c.loop-bin.invariant m l) (omega arith)
-
-pub tally_bin-requires-clause-one_bound : goal.tally_bin-requires-clause-one_bound
-tally_bin-requires-clause-one_bound c = rw (c.gain_costs-c.ensures, c.six.ensures) (costs_most (get_or c.args.v.bins.row.now c.loop-bin.bin 0) (drop (6 * c.loop-bin.bin) c.args.v.x.now))
+pub tally_bin-requires : goal.tally_bin-requires
+tally_bin-requires c m l = tally_small c.args.v.bins.row.now c.args.v.x.now c.args.v.bins.start c.loop-bin.bin c.loop-bin.plain m _ (c.loop-bin.invariant m l) (omega arith)
 
 pub overflow_add-plain : goal.overflow_add-plain
 overflow_add-plain c = let a = c.args in
