@@ -2,7 +2,7 @@
 use Prim.Native.Nat.{ℕ, zero, suc, ◌+◌, ◌-◌, ◌*◌, ◌/◌, ◌%◌, ◌≤◌, ◌<◌}
 use mathlib.Core.Path.{◌≡◌, refl, sym, ap, ◌∙◌}
 use mathlib.Core.Bool.{Bool, true, false, cond}
-use mathlib.Core.List.{List, [], ◌∷◌, ◌++◌, append_assoc}
+use mathlib.Core.List.{List, [], ◌∷◌, ◌++◌, append_assoc, append-nil}
 use native.Mathlib.Omega.{arith}
 use native.Mathlib.Numerals.{add-one}
 use borrow.Rule.Slice.PartMut.{put_mid}
@@ -10,7 +10,8 @@ use borrow.Author.Tests.{le-leb, lt-leb, eq-eqb, ne_eqb}
 use lib.Dec.{eqb}
 use lib.Ieee.{Float}
 use lib.ListN.{length, get_or, set, take, drop, length-append, length-replicate, length-drop}
-use lib.Seq.{length-take-le}
+use lib.Seq.{drop-length, length-take-le}
+use Rattle.std.proofs.lemmas.List.{nil_from_length}
 use Rattle.bits.specs.Bits.{splice}
 use Rattle.bits.proofs.Laws.{splice_none, splice_one}
 use Rattle.channel.specs.Bins.{from}
@@ -36,6 +37,10 @@ part n l h e t = put_is (omega arith) (omega arith) t
 -- a byte
 pub byte : (out : List ℕ) (at b r : ℕ) → at < length out → r ≡ at + 1 → Put out at (b ∷ []) (set out at b) r
 byte out at b r h e = part 1 refl (omega arith) e (sym (splice_one out at b h))
+
+-- a part of a slice, written whole
+pub part_over : (out w : List ℕ) (at n : ℕ) → length w ≡ n → at + n ≤ length out → Put out at w (put_mid at (at + n - at) out w) (at + n)
+part_over out w at n l h = part n l h refl (put_mid_splice out w at (at + n - at) (omega arith))
 
 -- ---- spaces
 -- a part of a slice that is filled with them
@@ -68,6 +73,15 @@ blank_turn out mid near i h e f =
     let m = b.long in
     (put_both a (put_both b (byte near (65 * i + 64) 10 (65 * i + 65) (omega arith) (omega arith)))).text ∙ ap (splice out 0) (blank_last i)
 
+-- ---- the front of an output, and the whole
+pub front_put : (out w : List ℕ) (n : ℕ) → length w ≡ n → w ++ drop n out ≡ splice out 0 w
+unfolding splice
+front_put out w n l = let z : 0 + length w ≡ n = omega arith in rw z refl
+
+whole : (out w : List ℕ) → length w ≡ length out → splice out 0 w ≡ w
+unfolding splice
+whole out w l = let z : 0 + length w ≡ length out = omega arith in rw z (ap (λ (s : List ℕ). w ++ s) (drop-length out) ∙ append-nil w)
+
 -- ---- a number
 pub aligned_long : (n k : ℕ) → length (aligned n k) ≡ n
 unfolding aligned
@@ -89,24 +103,31 @@ module _ (n : ℕ) where
       let c : suc places - suc (length d) ≡ places - length d = omega arith in
       rw (le-leb 10 n l, a, b, c) (append_assoc (spaces (places - length d)) d ((48 + n % 10) ∷ []))
 
-module _ (out : List ℕ) (at n : ℕ) where
-  pub number_none : out ≡ splice out at (aligned 0 n)
+module _ (out : List ℕ) (n : ℕ) where
+  pub number_none : length out ≡ 0 → out ≡ aligned (length out) n
   unfolding aligned decimal
-  number_none = sym (splice_none out at)
+  number_none h = let e = nil_from_length out h in rw e refl
 
-  module _ (places : ℕ) (some : 0 < places) (room : at + places ≤ length out) (mid : List ℕ) where
+  module _ (some : 0 < length out) (front : List ℕ) where
     -- the last digit behind what goes before it
-    last_put : (w : List ℕ) → length w ≡ places - 1 → mid ≡ splice out at w → w ++ ((48 + n % 10) ∷ []) ≡ aligned places n → set mid (at + (places - 1)) (48 + n % 10) ≡ splice out at (aligned places n)
+    last_put : (w : List ℕ) → length w ≡ length out - 1 → front ≡ w → w ++ ((48 + n % 10) ∷ []) ≡ aligned (length out) n
+        → set (front ++ drop (length out - 1) out) (length out - 1) (48 + n % 10) ≡ aligned (length out) n
     last_put w l e f =
-        let a = part (places - 1) l (omega arith) refl e in
+        let a : Put out 0 w (front ++ drop (length out - 1) out) (length out - 1) = part (length out - 1) l (omega arith) (omega arith) (rw e (front_put out w (length out - 1) l)) in
         let k = a.long in
-        (put_both a (byte mid (at + (places - 1)) (48 + n % 10) (at + places) (omega arith) (omega arith))).text ∙ ap (splice out at) f
+        (put_both a (byte _ (length out - 1) (48 + n % 10) (length out) (omega arith) (omega arith))).text ∙ ap (splice out 0) f
+        ∙ whole out (aligned (length out) n) (aligned_long (length out) n)
 
-    pub number_digit : n < 10 → mid ≡ splice out at (spaces (places - 1)) → set mid (at + (places - 1)) (48 + n % 10) ≡ splice out at (aligned places n)
-    number_digit l e = let z : n % 10 ≡ n = omega arith in last_put (spaces (places - 1)) (length-replicate {A = ℕ} (places - 1) 32) e (rw z (aligned_digit n places some l))
+    pub number_digit : n < 10 → front ≡ spaces (length (take (length out - 1) out)) → set (front ++ drop (length out - 1) out) (length out - 1) (48 + n % 10) ≡ aligned (length out) n
+    number_digit l e =
+        let z : n % 10 ≡ n = omega arith in
+        let i = length-take-le (length out - 1) out (omega arith) in
+        last_put (spaces (length out - 1)) (length-replicate {A = ℕ} (length out - 1) 32) (e ∙ ap spaces i) (rw z (aligned_digit n (length out) some l))
 
-    pub number_more : 10 ≤ n → mid ≡ splice out at (aligned (places - 1) (n / 10)) → set mid (at + (places - 1)) (48 + n % 10) ≡ splice out at (aligned places n)
-    number_more l e = last_put (aligned (places - 1) (n / 10)) (aligned_long (places - 1) (n / 10)) e (aligned_more n places some l)
+    pub number_more : 10 ≤ n → front ≡ aligned (length (take (length out - 1) out)) (n / 10) → set (front ++ drop (length out - 1) out) (length out - 1) (48 + n % 10) ≡ aligned (length out) n
+    number_more l e =
+        let i = length-take-le (length out - 1) out (omega arith) in
+        last_put (aligned (length out - 1) (n / 10)) (aligned_long (length out - 1) (n / 10)) (e ∙ ap (λ (k : ℕ). aligned k (n / 10)) i) (aligned_more n (length out) some l)
 
 -- ---- Gk
 pub gain_long : (g : ℕ) → length (gain_text g) ≡ 1
@@ -117,23 +138,32 @@ gain_long g = go (eqb g 0)
     go true = refl
     go false = aligned_long 1 g
 
-pub part_put : (out after : List ℕ) (at n places : ℕ) → at + 1 + places ≤ length out → after ≡ splice (set out at 32) (at + 1) (aligned places n) → after ≡ splice out at (32 ∷ aligned places n)
-part_put out after at n places h e =
-    let s = byte out at 32 (at + 1) (omega arith) refl in
+-- how long a part is
+part_long : (l : List ℕ) (at n : ℕ) → at + n ≤ length l → length (take n (drop at l)) ≡ n
+part_long l at n h = length-take-le n (drop at l) (omega (arith, length-drop at l))
+
+-- a number behind a space
+pub part_put : (out w : List ℕ) (n : ℕ) → 0 < length out → w ≡ aligned (length (take (length (set out 0 32) - 1) (drop 1 (set out 0 32)))) n
+    → put_mid 1 (length (set out 0 32) - 1) (set out 0 32) w ≡ 32 ∷ aligned (length out - 1) n
+part_put out w n h e =
+    let s = byte out 0 32 1 (omega arith) refl in
     let k = s.long in
-    (put_both s (part places (aligned_long places n) (omega arith) refl e)).text
+    let l = aligned_long (length out - 1) n in
+    let p = put_mid_splice (set out 0 32) (aligned (length out - 1) n) 1 (length (set out 0 32) - 1) (omega arith) in
+    let i : length (take (length (set out 0 32) - 1) (drop 1 (set out 0 32))) ≡ length out - 1 = part_long (set out 0 32) 1 (length (set out 0 32) - 1) (omega arith) ∙ ap (λ (n : ℕ). n - 1) k in
+    rw (e, i) ((put_both s (part (length out - 1) l (omega arith) refl p)).text ∙ whole out (32 ∷ aligned (length out - 1) n) (omega arith))
 
-module _ (out : List ℕ) (at g : ℕ) where
-  pub gain_dash : at + 2 ≤ length out → g ≡ 0 → set (set out at 32) (at + 1) 45 ≡ splice out at (32 ∷ gain_text g)
+module _ (g : ℕ) where
+  pub gain_dash : (out : List ℕ) → length out ≡ 2 → g ≡ 0 → set (set out 0 32) 1 45 ≡ 32 ∷ gain_text g
   unfolding gain_text
-  gain_dash h e =
-      let s = byte out at 32 (at + 1) (omega arith) refl in
+  gain_dash out h e =
+      let s = byte out 0 32 1 (omega arith) refl in
       let k = s.long in
-      rw (eq-eqb g 0 e) (put_both s (byte (set out at 32) (at + 1) 45 (at + 2) (omega arith) (omega arith))).text
+      rw (eq-eqb g 0 e) ((put_both s (byte (set out 0 32) 1 45 2 (omega arith) refl)).text ∙ whole out (32 ∷ 45 ∷ []) (sym h))
 
-  pub gain_shown : (after : List ℕ) → (g ≡ 0 → ⊥) → after ≡ splice out at (32 ∷ aligned 1 g) → after ≡ splice out at (32 ∷ gain_text g)
+  pub gain_shown : (w : List ℕ) → (g ≡ 0 → ⊥) → w ≡ 32 ∷ aligned 1 g → w ≡ 32 ∷ gain_text g
   unfolding gain_text
-  gain_shown after n e = rw (ne_eqb g 0 n) e
+  gain_shown w n e = rw (ne_eqb g 0 n) e
 
 -- ---- the cell
 -- what is shown of the bin k, before which n bins are active: g is the gain at that place
@@ -152,17 +182,28 @@ pub cell_long : (c : Cell) → length (cell_text c) ≡ 12
 unfolding cell_text spread
 cell_long c = simp (length-append, aligned_long, gain_long)
 
-pub cell_put : (out : List ℕ) (at : ℕ) (c : Cell) (m₁ m₂ m₃ m₄ : List ℕ) → at + 12 ≤ length out
-    → m₁ ≡ splice out at (aligned 3 c.bin) → m₂ ≡ splice m₁ (at + 3) (32 ∷ aligned 2 c.hebap)
-    → m₃ ≡ splice m₂ (at + 6) (32 ∷ gain_text c.gk) → m₄ ≡ splice m₃ (at + 8) (32 ∷ aligned 3 c.bits)
-    → m₄ ≡ splice out at (cell_text c)
+pub cell_put : (out : List ℕ) (c : Cell) (w₁ w₂ w₃ w₄ : List ℕ) → length out ≡ 12
+    → let m₁ = w₁ ++ drop 3 out in let m₃ = put_mid 6 2 (put_mid 3 3 m₁ w₂) w₃ in
+    w₁ ≡ aligned (length (take 3 out)) c.bin → w₂ ≡ 32 ∷ aligned (length (take 3 (drop 3 m₁)) - 1) c.hebap
+    → w₃ ≡ 32 ∷ gain_text c.gk → w₄ ≡ 32 ∷ aligned (length (take 4 (drop 8 m₃)) - 1) c.bits → put_mid 8 4 m₃ w₄ ≡ cell_text c
 unfolding cell_text spread
-cell_put out at c m₁ m₂ m₃ m₄ h e₁ e₂ e₃ e₄ =
-    let p₁ = part 3 (aligned_long 3 c.bin) (omega arith) refl e₁ in
-    let l₁ = p₁.long in
-    let p₂ = part {r = at + 6} 3 (ap suc (aligned_long 2 c.hebap)) (omega arith) (omega arith) e₂ in
-    let l₂ = p₂.long in
-    let p₃ = part {r = at + 8} 2 (ap suc (gain_long c.gk)) (omega arith) (omega arith) e₃ in
-    let l₃ = p₃.long in
-    let p₄ = part 4 (ap suc (aligned_long 3 c.bits)) (omega arith) refl e₄ in
-    (put_both p₁ (put_both p₂ (put_both p₃ p₄))).text
+cell_put out c w₁ w₂ w₃ w₄ h e₁ e₂ e₃ e₄ =
+    let m₁ = w₁ ++ drop 3 out in
+    let m₂ = put_mid 3 3 m₁ w₂ in
+    let m₃ = put_mid 6 2 m₂ w₃ in
+    let f₁ : w₁ ≡ aligned 3 c.bin = e₁ ∙ ap (λ (n : ℕ). aligned n c.bin) (part_long out 0 3 (omega arith)) in
+    let l₁ : length w₁ ≡ 3 = ap length f₁ ∙ aligned_long 3 c.bin in
+    let p₁ : Put out 0 w₁ m₁ 3 = part 3 l₁ (omega arith) refl (front_put out w₁ 3 l₁) in
+    let k₁ = p₁.long in
+    let f₂ : w₂ ≡ 32 ∷ aligned 2 c.hebap = e₂ ∙ ap (λ (n : ℕ). 32 ∷ aligned (n - 1) c.hebap) (part_long m₁ 3 3 (omega arith)) in
+    let l₂ : length w₂ ≡ 3 = ap length f₂ ∙ ap suc (aligned_long 2 c.hebap) in
+    let p₂ : Put m₁ 3 w₂ m₂ 6 = part 3 l₂ (omega arith) refl (put_mid_splice m₁ w₂ 3 3 (sym l₂)) in
+    let k₂ = p₂.long in
+    let l₃ : length w₃ ≡ 2 = ap length e₃ ∙ ap suc (gain_long c.gk) in
+    let p₃ : Put m₂ 6 w₃ m₃ 8 = part 2 l₃ (omega arith) refl (put_mid_splice m₂ w₃ 6 2 (sym l₃)) in
+    let k₃ = p₃.long in
+    let f₄ : w₄ ≡ 32 ∷ aligned 3 c.bits = e₄ ∙ ap (λ (n : ℕ). 32 ∷ aligned (n - 1) c.bits) (part_long m₃ 8 4 (omega arith)) in
+    let l₄ : length w₄ ≡ 4 = ap length f₄ ∙ ap suc (aligned_long 3 c.bits) in
+    let p₄ : Put m₃ 8 w₄ (put_mid 8 4 m₃ w₄) 12 = part 4 l₄ (omega arith) refl (put_mid_splice m₃ w₄ 8 4 (sym l₄)) in
+    let all : length (w₁ ++ (w₂ ++ (w₃ ++ w₄))) ≡ length out = rw (length-append, length-append, length-append) (omega arith) in
+    (put_both p₁ (put_both p₂ (put_both p₃ p₄))).text ∙ whole out (w₁ ++ (w₂ ++ (w₃ ++ w₄))) all ∙ rw (f₁, f₂, e₃, f₄) refl

@@ -1,16 +1,17 @@
 // A plan on pages: each bin with its hebap, its gain and its bits. docs/FORMAT.md, Pages.
 #![tactic(auto)]
 
-ghost use Rattle.std.specs.Prelude.{◌≡◌, ◌∷◌, ◌+◌, ◌-◌, ◌*◌, ◌<◌, ◌≤◌, length};
+ghost use Rattle.std.specs.Prelude.{◌≡◌, ◌∷◌, ◌-◌, ◌*◌, ◌<◌, ◌≤◌, length};
 ghost use Rattle.bits.specs.Bits.{splice};
 ghost use Rattle.channel.specs.Row.{active_count};
-ghost use Rattle.planner.specs.Work.{Within};
-ghost use Rattle.pages.specs.Pages.{spaces, aligned, gain_text, cell_text, cell_at, cell_text_at, place_at};
+ghost use Rattle.pages.specs.Pages.{aligned, gain_text, cell_text, cell_at, cell_text_at, place_at};
 ghost use Rattle.pages.specs.Printing.{pages_print, pages_printed};
 ghost use Rattle.pages.specs.Work.{blank_lines, with_cells};
 
 use answers::Refusal;
+use channel::bins::Bins;
 use planner::Plan;
+use planner::vectors::BinVectors;
 
 // What is shown of a bin; gk is 0 where the bin isn't active.
 #[derive(Clone, Copy)]
@@ -29,71 +30,66 @@ const DASH: u8 = 45;
 
 const ZERO: u8 = 48;
 
-fn put_spaces(out: &mut [u8], at: usize, n: usize)
-    requires { at + n ≤ length out.old }
-    ensures { out.new ≡ splice out.old at (spaces n) }
-{
-    out[at..at + n].fill(SPACE);
-}
-
 // Lines of 64 spaces.
 fn put_blank(out: &mut [u8], lines: usize)
     requires { 65 * lines ≤ length out.old }
     ensures { out.new ≡ splice out.old 0 (blank_lines lines) }
 {
     for line in 0..lines {
-        put_spaces(&mut *out, 65 * line, 64);
-        out[65 * line + 64] = LINE_END;
+        let at = 65 * line;
+        out[at..at + 64].fill(SPACE);
+        out[at + 64] = LINE_END;
     }
 }
 
-// A number right-aligned in so many places.
-fn put_number(out: &mut [u8], at: usize, n: u32, places: usize)
-    requires { at + places ≤ length out.old }
-    ensures { out.new ≡ splice out.old at (aligned places n) }
+// A number right-aligned in all places.
+fn put_number(out: &mut [u8], n: u32)
+    ensures { out.new ≡ aligned (length out.old) n }
 {
+    let places = out.len();
     if places == 0 {
         return;
     }
+    let last = places - 1;
     if n < 10 {
-        put_spaces(&mut *out, at, places - 1);
+        out[..last].fill(SPACE);
     } else {
-        put_number(&mut *out, at, n / 10, places - 1);
+        put_number(&mut out[..last], n / 10);
     }
-    out[at + (places - 1)] = ZERO + (n % 10) as u8;
+    out[last] = ZERO + (n % 10) as u8;
 }
 
 // The same after a space.
-fn put_part(out: &mut [u8], at: usize, n: u32, places: usize)
-    requires { at + 1 + places ≤ length out.old }
-    ensures { out.new ≡ splice out.old at (32 ∷ aligned places n) }
+fn put_part(out: &mut [u8], n: u32)
+    requires { 0 < length out.old }
+    ensures { out.new ≡ 32 ∷ aligned (length out.old - 1) n }
 {
-    out[at] = SPACE;
-    put_number(out, at + 1, n, places)
+    out[0] = SPACE;
+    put_number(&mut out[1..], n);
 }
 
 // Gk after a space, or a dash for 0.
-fn put_gain(out: &mut [u8], at: usize, gk: u8)
-    requires { at + 2 ≤ length out.old }
-    ensures { out.new ≡ splice out.old at (32 ∷ gain_text gk) }
+fn put_gain(out: &mut [u8], gk: u8)
+    requires { length out.old ≡ 2 }
+    ensures { out.new ≡ 32 ∷ gain_text gk }
 {
     if gk == 0 {
-        out[at] = SPACE;
-        out[at + 1] = DASH;
+        out[0] = SPACE;
+        out[1] = DASH;
         return;
     }
-    put_part(out, at, u32::from(gk), 1)
+    put_part(out, u32::from(gk))
 }
 
 // The twelve characters of a bin.
-fn put_cell(out: &mut [u8], at: usize, c: Cell)
-    requires { at + 12 ≤ length out.old }
-    ensures { out.new ≡ splice out.old at (cell_text c) }
+fn put_cell(out: &mut [u8], c: Cell)
+    requires { length out.old ≡ 12 }
+    ensures { out.new ≡ cell_text c }
 {
-    put_number(&mut *out, at, c.bin, 3);
-    put_part(&mut *out, at + 3, u32::from(c.hebap), 2);
-    put_gain(&mut *out, at + 6, c.gk);
-    put_part(out, at + 8, c.bits, 3)
+    put_number(&mut out[..3], c.bin);
+    put_part(&mut out[3..6], u32::from(c.hebap));
+    put_gain(&mut out[6..8], c.gk);
+    put_part(&mut out[8..12], c.bits);
 }
 
 // The place of the bin i of the pages: four to a line.
@@ -105,27 +101,19 @@ fn place_of(i: usize) -> usize
 }
 
 // What is shown of a bin, before which n bins are active.
-fn cell_of(
-    mode: u8,
-    gains: &[u8],
-    n: usize,
-    row: &[u8],
-    x: &[f32],
-    bin: usize,
-    start: usize,
-) -> Cell
-    requires start_le_bin { (start ≤ bin) × (bin < 256) × (bin < length row.now) × (6 * bin + 6 ≤ length x.now) }
-    requires n_value { n ≡ active_count mode row.now start bin }
-    ensures { result ≡ cell_at mode gains.now row.now x.now start bin }
+fn cell_of(mode: u8, gains: &[u8], n: usize, v: BinVectors, bin: usize) -> Cell
+    requires in_bins { (v.bins.start ≤ bin) × (bin < v.bins.end) }
+    requires n_value { n ≡ active_count mode v.bins.row.now v.bins.start bin }
+    ensures { result ≡ cell_at mode gains.now v.entry.bins.row.now v.entry.x.now v.entry.bins.start bin }
 {
-    let hebap = row[bin];
+    let hebap = v.bins.row[bin];
     let gain = channel::gain_at(gains, n);
     let gk = if gains::is_active(mode, hebap) {
         gain
     } else {
         0
     };
-    let bits = planner::bin_bits(mode, hebap, gain, x, bin);
+    let bits = planner::bin_bits(mode, hebap, gain, v.six(bin));
     Cell {
         bin: bin as u32,
         hebap,
@@ -134,26 +122,18 @@ fn cell_of(
     }
 }
 
-// The cells of the bins start to end - 1, each at its place.
-fn put_cells(
-    out: &mut [u8],
-    mode: u8,
-    gains: &[u8],
-    row: &[u8],
-    start: usize,
-    end: usize,
-    x: &[f32],
-)
-    requires within { Within row.now start end x.now }
-    requires start_in_bounds { place_at (end - start) ≤ length out.old }
+// The cells of the bins, each at its place.
+fn put_cells(out: &mut [u8], mode: u8, gains: &[u8], v: BinVectors)
+    requires { place_at (v.bins.end - v.bins.start) ≤ length out.old }
     ensures { out.new
-        ≡ with_cells (cell_text_at mode gains.now row.now x.now start) start end out.old }
+        ≡ with_cells (cell_text_at mode gains.now v.entry.bins.row.now v.entry.x.now v.entry.bins.start) v.entry.bins.start v.entry.bins.end out.old }
 {
     let mut n: usize = 0;
-    for bin in start..end {
-        let c = cell_of(mode, gains, n, row, x, bin, start);
-        put_cell(&mut *out, place_of(bin - start), c);
-        n += channel::gains_used(mode, row[bin]);
+    for bin in v.bins.start..v.bins.end {
+        let c = cell_of(mode, gains, n, v, bin);
+        let at = place_of(bin - v.bins.start);
+        put_cell(&mut out[at..at + 12], c);
+        n += channel::gains_used(mode, v.bins.row[bin]);
     }
 }
 
@@ -178,6 +158,11 @@ pub fn print_pages(
     }
     let gains = &plan.gains[..plan.count];
     put_blank(&mut *out, lines);
-    put_cells(out, plan.mode, gains, hebap, start, end, x);
+    let bins = Bins {
+        row: hebap,
+        start,
+        end,
+    };
+    put_cells(out, plan.mode, gains, BinVectors { bins, x });
     Ok(65 * lines)
 }

@@ -2,11 +2,11 @@
 use mathlib.Core.Path.{◌≡◌, refl, sym, ap, ◌∙◌}
 use mathlib.Core.Bool.{Bool, true, false, not, ◌&&◌, cond}
 use mathlib.Core.List.{List, ◌++◌}
-use Prim.Native.Nat.{ℕ, ◌+◌, ◌-◌, ◌*◌, ◌/◌, ◌≤◌, ◌<◌}
+use Prim.Native.Nat.{ℕ, ◌+◌, ◌*◌, ◌/◌, ◌≤◌, ◌<◌}
 use native.Mathlib.Omega.{arith}
 use borrow.Author.Tests.{lt-ltb, le-ltb, ltb-true, ltb-false, ne_eqb}
 use lib.Dec.{eqb, ltb}
-use lib.ListN.{length, get_or, take, drop, length-append}
+use lib.ListN.{length, get_or, drop, length-append}
 use lib.Ieee.{Float}
 use Rattle.std.specs.Prelude.{Option, None, Some, Result, Ok, Err}
 use Rattle.answers.specs.Answers.{answer_number, value_or}
@@ -53,11 +53,10 @@ pub too_large_none : (row : List ℕ) (x : List Float) (k : ℕ) → get_or row 
 unfolding beyond_at
 too_large_none row x k e = sym (ap (λ (z : ℕ). not (eqb z 0) && some_too_large (six_of x k)) e)
 
-pub too_large_some : (row : List ℕ) (x : List Float) (k : ℕ) (r : Bool) → (get_or row k 0 ≡ 0 → ⊥) → r ≡ some_too_large (take (6 * k + 6 - 6 * k) (drop (6 * k) x)) → r ≡ too_large_at row x k
+pub too_large_some : (row : List ℕ) (x : List Float) (k : ℕ) (r : Bool) → (get_or row k 0 ≡ 0 → ⊥) → r ≡ some_too_large (six_of x k) → r ≡ too_large_at row x k
 unfolding beyond_at
 too_large_some row x k r n e =
-    let six : 6 * k + 6 - 6 * k ≡ 6 = omega arith in
-    e ∙ ap (λ (w : ℕ). some_too_large (take w (drop (6 * k) x))) six ∙ sym (ap (λ (t : Bool). not t && some_too_large (six_of x k)) (ne_eqb (get_or row k 0) 0 n))
+    e ∙ sym (ap (λ (t : Bool). not t && some_too_large (six_of x k)) (ne_eqb (get_or row k 0) 0 n))
 
 -- ---- the cause
 -- vectors too short, without a product that could be too large

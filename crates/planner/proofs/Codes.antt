@@ -8,8 +8,8 @@ use native.Mathlib.Nat.{le_trans, le_of_eq}
 use native.Mathlib.Omega.{arith}
 use borrow.Author.Tests.{lt-leb, ne_eqb, eqb-true}
 use lib.Dec.{eqb, leb}
-use lib.ListN.{length, get_or, take, drop, length-take, length-drop}
-use lib.Seq.{take-suc, get_or-drop}
+use lib.ListN.{length, get_or, take, length-take}
+use lib.Seq.{take-suc, take_all}
 use lib.Ieee.{Float, nan}
 use Rattle.tables.specs.Tables.{mant_bits, vq_bits}
 use Rattle.tables.proofs.Rules.{mant_bits_lem, mant_none, vq_most}
@@ -20,7 +20,8 @@ use Rattle.quantiser.proofs.Facts.{picked_bits}
 use Rattle.channel.specs.Bins.{sum_over}
 use Rattle.channel.proofs.Over.{sum_none, sum_next}
 use Rattle.planner.specs.Cost.{bin_bits}
-use Rattle.planner.specs.Work.{component_bits, six_bits, costs_of, cost_in, plain_bits}
+use Rattle.planner.specs.Work.{component_bits, six_bits, cost_in, CostsOf, plain_bits}
+use Rattle.planner.specs.declared.costs.Costs.{Costs}
 
 pub component_is : (h g : ℕ) (x : List Float) (i : ℕ) → component_bits h g x i ≡ scalar_bits h g (get_or x i nan)
 unfolding component_bits
@@ -33,19 +34,17 @@ unfolding codes_bits
 codes_last h g [] y = omega arith
 codes_last h g (z ∷ xs) y = let r = codes_last h g xs y in omega arith
 
-run_codes : (h g : ℕ) (x : List Float) (a n : ℕ) → a + n ≤ length x → sum_over (component_bits h g x) a (a + n) ≡ codes_bits h g (take n (drop a x))
+run_codes : (h g : ℕ) (v : List Float) (n : ℕ) → n ≤ length v → sum_over (component_bits h g v) 0 n ≡ codes_bits h g (take n v)
 unfolding component_bits codes_bits
-run_codes h g x a zero l = sum_none (component_bits h g x) a (a + 0) (omega arith)
-run_codes h g x a (suc n) l =
-    let e : a + suc n ≡ suc (a + n) = omega arith in
-    let b : n < length (drop a x) = rw length-drop (omega arith) in
-    ap (sum_over (component_bits h g x) a) e ∙ sum_next (component_bits h g x) a (a + n) (omega arith)
-    ∙ rw (take-suc (drop a x) n nan b, get_or-drop a x n nan, codes_last h g (take n (drop a x)) (get_or x (a + n) nan), run_codes h g x a n (omega arith))
+run_codes h g v zero l = sum_none (component_bits h g v) 0 0 (omega arith)
+run_codes h g v (suc n) l =
+    sum_next (component_bits h g v) 0 n (omega arith)
+    ∙ rw (take-suc v n nan l, codes_last h g (take n v) (get_or v n nan), run_codes h g v n (omega arith))
 
 -- The planner counts for a bin the bits that quantise_bin answers.
-pub six_codes : (h g : ℕ) (x : List Float) (a : ℕ) → a + 6 ≤ length x → six_bits h x a g ≡ codes_bits h g (take 6 (drop a x))
+pub six_codes : (h g : ℕ) (v : List Float) → length v ≡ 6 → six_bits h v g ≡ codes_bits h g v
 unfolding six_bits
-six_codes h g x a l = run_codes h g x a 6 l
+six_codes h g v six = run_codes h g v 6 (omega arith) ∙ ap (codes_bits h g) (take_all 6 v (omega arith))
 
 pub bin_scalar : (h g : ℕ) (v : List Float) → 8 ≤ h → bin_bits h g v ≡ codes_bits h g v
 unfolding bin_bits
@@ -63,14 +62,14 @@ codes_other h g (x ∷ v) p q =
     ap (λ (n : ℕ). n + codes_bits h g v) (picked_bits h g x ∙ scalar_other h g x p q ∙ sym (picked_bits h 4 x))
     ∙ ap (λ (n : ℕ). code_bits (mant_bits h) 4 (picked h 4 x).0 + n) (codes_other h g v p q)
 
-pub cost_is : (h g : ℕ) (v : List Float) → cost_in (costs_of h v) g ≡ codes_bits h g v
-unfolding cost_in costs_of
-cost_is h g v = go (eqb g 1) refl (eqb g 2) refl
+pub costs_of : (h : ℕ) (v : List Float) (c : Costs) → c.one ≡ codes_bits h 1 v → c.two ≡ codes_bits h 2 v → c.four ≡ codes_bits h 4 v → CostsOf h v c
+unfolding cost_in
+costs_of h v c e1 e2 e4 g = go (eqb g 1) refl (eqb g 2) refl
   where
-    go : (s : Bool) → eqb g 1 ≡ s → (t : Bool) → eqb g 2 ≡ t → cond s (codes_bits h 1 v) (cond t (codes_bits h 2 v) (codes_bits h 4 v)) ≡ codes_bits h g v
-    go true p t q = ap (λ (k : ℕ). codes_bits h k v) (sym (eqb-true g 1 p))
-    go false p true q = ap (λ (k : ℕ). codes_bits h k v) (sym (eqb-true g 2 q))
-    go false p false q = sym (codes_other h g v p q)
+    go : (s : Bool) → eqb g 1 ≡ s → (t : Bool) → eqb g 2 ≡ t → cond s c.one (cond t c.two c.four) ≡ codes_bits h g v
+    go true p t q = e1 ∙ ap (λ (k : ℕ). codes_bits h k v) (sym (eqb-true g 1 p))
+    go false p true q = e2 ∙ ap (λ (k : ℕ). codes_bits h k v) (sym (eqb-true g 2 q))
+    go false p false q = e4 ∙ sym (codes_other h g v p q)
 
 -- ---- bounds
 pub mant_most : (h : ℕ) → mant_bits h ≤ 16
@@ -89,7 +88,7 @@ scalar_most h g x = let m = mant_most h in go (eqb g 1) (is_small (small_bits (m
     go false false true m = omega arith
     go false false false m = omega arith
 
-codes_most : (h g : ℕ) (v : List Float) → codes_bits h g v ≤ 32 * length v
+pub codes_most : (h g : ℕ) (v : List Float) → codes_bits h g v ≤ 32 * length v
 unfolding codes_bits
 codes_most h g [] = omega arith
 codes_most h g (x ∷ v) = let e = picked_bits h g x in let s = scalar_most h g x in let r = codes_most h g v in omega arith
@@ -105,10 +104,6 @@ bin_most h g l = go (eqb h 0) (leb h 7)
     go true t = omega arith
     go false true = let v = vq_most h in omega arith
     go false false = six_most h g l
-
-pub costs_most : (h : ℕ) (l : List Float) → ((costs_of h (take 6 l)).one ≤ 256) × ((costs_of h (take 6 l)).two ≤ 256) × ((costs_of h (take 6 l)).four ≤ 256)
-unfolding costs_of
-costs_most h l = (six_most h 1 l, six_most h 2 l, six_most h 4 l)
 
 pub plain_most : (h : ℕ) → plain_bits h ≤ 256
 unfolding plain_bits

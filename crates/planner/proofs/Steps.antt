@@ -7,7 +7,7 @@ use native.Mathlib.Nat.{le_trans, le_of_eq, le_antisymm, suc-mul, add-mul, mul-l
 use native.Mathlib.Omega.{arith}
 use borrow.Author.Tests.{lt-ltb, le-ltb, ne_eqb, eqb-true, leb-false}
 use lib.Dec.{T, leb, eqb}
-use lib.ListN.{length, get_or, take, drop}
+use lib.ListN.{length, get_or}
 use lib.Ieee.{Float, nan, binary32, fits, le}
 use Rattle.tables.specs.Tables.{mant_bits, vq_bits}
 use Rattle.tables.specs.Numbers.{vq_bits_table}
@@ -18,10 +18,10 @@ use Rattle.channel.specs.Bins.{sum_over}
 use Rattle.channel.proofs.Over.{one_small, sum_none, sum_next, sum_le, sum_grows}
 use Rattle.planner.specs.Cost.{bin_bits}
 use Rattle.planner.specs.Choice.{cheaper, cheapest, least_up_to}
-use Rattle.planner.specs.Work.{size_of, limit_of, limits_of, component_bits, six_bits, tag_at, tagged_bits, costs_of, cost_in, gain_in, plain_bits}
-use Rattle.planner.specs.declared.Costs.{Costs}
+use Rattle.planner.specs.Work.{size_of, limit_of, limits_of, component_bits, six_bits, tag_at, tagged_bits, cost_in, CostsOf, gain_in, plain_bits}
+use Rattle.planner.specs.declared.costs.Costs.{Costs}
 use Rattle.planner.specs.declared.Limits.{Limits}
-use Rattle.planner.proofs.Codes.{component_is, six_codes, codes_other}
+use Rattle.planner.proofs.Codes.{component_is, six_codes, codes_other, costs_of, codes_most}
 use Rattle.planner.proofs.Escape.{escape}
 
 -- a component of the size s: small codes have the bits small, the large code behind the tag has the bits large
@@ -102,53 +102,58 @@ module _ (h m : ℕ) (x : Float) (low : 8 ≤ h) (high : h ≤ 16) (em : m ≡ m
   four_is l el = sym (ap (λ (z : Limits). bits_by_size (size_of x) z.four (m - 2) m) el ∙ code_four)
 
 -- ---- one bin
-module _ (h : ℕ) (x : List Float) (a m : ℕ) (em : m ≡ mant_bits h) (room : a + 6 ≤ length x) where
-  pub six_1 : 6 * m ≡ codes_bits h 1 (take 6 (drop a x))
+module _ (h : ℕ) (v : List Float) (m : ℕ) (em : m ≡ mant_bits h) (six : length v ≡ 6) where
+  pub six_1 : 6 * m ≡ codes_bits h 1 v
   unfolding six_bits scalar_bits
-  six_1 = ap (λ (k : ℕ). 6 * k) em ∙ sym (sum_run (component_bits h 1 x) (mant_bits h) a 6 (λ k. component_is h 1 x k)) ∙ six_codes h 1 x a room
+  six_1 = ap (λ (k : ℕ). 6 * k) em ∙ sym (sum_run (component_bits h 1 v) (mant_bits h) 0 6 (λ k. component_is h 1 v k)) ∙ six_codes h 1 v six
 
-  module _ (l : Limits) (low : 8 ≤ h) (high : h ≤ 16) (el : l ≡ limits_of h) (f : (k : ℕ) → T (fits binary32 (get_or x k nan))) where
-    pub six_2 : tagged_bits x a l.two (m - 1) (m - 1) ≡ codes_bits h 2 (take 6 (drop a x))
+  module _ (l : Limits) (low : 8 ≤ h) (high : h ≤ 16) (el : l ≡ limits_of h) (f : (k : ℕ) → T (fits binary32 (get_or v k nan))) where
+    pub six_2 : tagged_bits v l.two (m - 1) (m - 1) ≡ codes_bits h 2 v
     unfolding six_bits tagged_bits
     six_2 =
-        sym (sum_counted (component_bits h 2 x) (λ k. le l.two (size_of (get_or x k nan))) (m - 1) (m - 1) a 6 (λ k. component_is h 2 x k ∙ two_is h m (get_or x k nan) low high em (f k) l el))
-        ∙ six_codes h 2 x a room
+        sym (sum_counted (component_bits h 2 v) (λ k. le l.two (size_of (get_or v k nan))) (m - 1) (m - 1) 0 6 (λ k. component_is h 2 v k ∙ two_is h m (get_or v k nan) low high em (f k) l el))
+        ∙ six_codes h 2 v six
 
-    pub six_4 : tagged_bits x a l.four (m - 2) m ≡ codes_bits h 4 (take 6 (drop a x))
+    pub six_4 : tagged_bits v l.four (m - 2) m ≡ codes_bits h 4 v
     unfolding six_bits tagged_bits
     six_4 =
-        sym (sum_counted (component_bits h 4 x) (λ k. le l.four (size_of (get_or x k nan))) (m - 2) m a 6 (λ k. component_is h 4 x k ∙ four_is h m (get_or x k nan) low high em (f k) l el))
-        ∙ six_codes h 4 x a room
+        sym (sum_counted (component_bits h 4 v) (λ k. le l.four (size_of (get_or v k nan))) (m - 2) m 0 6 (λ k. component_is h 4 v k ∙ four_is h m (get_or v k nan) low high em (f k) l el))
+        ∙ six_codes h 4 v six
 
-    pub costs_are : (two four : ℕ) → two ≡ tagged_bits x a l.two (m - 1) (m - 1) → four ≡ tagged_bits x a l.four (m - 2) m
-        → ◌≡◌ {A = Costs} (record { one = 6 * m; two = two; four = four }) (costs_of h (take 6 (drop a x)))
-    unfolding costs_of
-    costs_are two four e2 e4 = rw (six_1, e2 ∙ six_2, e4 ∙ six_4)
+    pub costs_few : (two four : ℕ) → two ≡ tagged_bits v l.two (m - 1) (m - 1) → four ≡ tagged_bits v l.four (m - 2) m → (6 * m ≤ 256) × (two ≤ 256) × (four ≤ 256)
+    costs_few two four e2 e4 =
+        let a = six_1 in
+        let b = e2 ∙ six_2 in
+        let c = e4 ∙ six_4 in
+        (omega (arith, codes_most h 1 v), omega (arith, codes_most h 2 v), omega (arith, codes_most h 4 v))
+
+    pub costs_are : (c : Costs) → c.one ≡ 6 * m → c.two ≡ tagged_bits v l.two (m - 1) (m - 1) → c.four ≡ tagged_bits v l.four (m - 2) m → CostsOf h v c
+    costs_are c e1 e2 e4 = costs_of h v c (e1 ∙ six_1) (e2 ∙ six_2) (e4 ∙ six_4)
 
     -- ---- at one gain
-    pub bits_1 : (g : ℕ) → g ≡ 1 → 6 * m ≡ codes_bits h g (take 6 (drop a x))
+    pub bits_1 : (g : ℕ) → g ≡ 1 → 6 * m ≡ codes_bits h g v
     bits_1 g e = rw e six_1
 
-    pub bits_2 : (g r : ℕ) → g ≡ 2 → r ≡ tagged_bits x a l.two (m - 1) (m - 1) → r ≡ codes_bits h g (take 6 (drop a x))
+    pub bits_2 : (g r : ℕ) → g ≡ 2 → r ≡ tagged_bits v l.two (m - 1) (m - 1) → r ≡ codes_bits h g v
     bits_2 g r e er = rw e (er ∙ six_2)
 
-    pub bits_4 : (g r : ℕ) → (g ≡ 1 → ⊥) → (g ≡ 2 → ⊥) → r ≡ tagged_bits x a l.four (m - 2) m → r ≡ codes_bits h g (take 6 (drop a x))
-    bits_4 g r p q er = er ∙ six_4 ∙ sym (codes_other h g (take 6 (drop a x)) (ne_eqb g 1 p) (ne_eqb g 2 q))
+    pub bits_4 : (g r : ℕ) → (g ≡ 1 → ⊥) → (g ≡ 2 → ⊥) → r ≡ tagged_bits v l.four (m - 2) m → r ≡ codes_bits h g v
+    bits_4 g r p q er = er ∙ six_4 ∙ sym (codes_other h g v (ne_eqb g 1 p) (ne_eqb g 2 q))
 
 -- a bin at Gk 1; hebap 0 has no index
 vq_zero : vq_bits 0 ≡ 0
 unfolding vq_bits vq_bits_table
 vq_zero = refl
 
-pub plain_is : (h : ℕ) (x : List Float) (a : ℕ) → a + 6 ≤ length x → plain_bits h ≡ bin_bits h 1 (take 6 (drop a x))
+pub plain_is : (h : ℕ) (v : List Float) → length v ≡ 6 → plain_bits h ≡ bin_bits h 1 v
 unfolding plain_bits bin_bits
-plain_is h x a room = go (eqb h 0) refl (leb h 7) refl
+plain_is h v six = go (eqb h 0) refl (leb h 7) refl
   where
-    go : (s : Bool) → eqb h 0 ≡ s → (t : Bool) → leb h 7 ≡ t → cond t (vq_bits h) (6 * mant_bits h) ≡ cond s 0 (cond t (vq_bits h) (codes_bits h 1 (take 6 (drop a x))))
+    go : (s : Bool) → eqb h 0 ≡ s → (t : Bool) → leb h 7 ≡ t → cond t (vq_bits h) (6 * mant_bits h) ≡ cond s 0 (cond t (vq_bits h) (codes_bits h 1 v))
     go true p true q = ap vq_bits (eqb-true h 0 p) ∙ vq_zero
     go true p false q = absurd (let e = eqb-true h 0 p in let l = leb-false h 7 q in omega arith)
     go false p true q = refl
-    go false p false q = six_1 h x a (mant_bits h) refl room
+    go false p false q = six_1 h v (mant_bits h) refl six
 
 -- ---- the cheaper of two
 pub take_next : (cost : ℕ → ℕ) (g k a b : ℕ) → a ≡ cost k → b ≡ cost g → a < b → k ≡ cheaper cost g k
@@ -188,20 +193,20 @@ pub gain_none : (mode : ℕ) (c : Costs) → (mode ≡ 1 → ⊥) → (mode ≡ 
 unfolding gain_in cheapest other_gains
 gain_none mode c p q r = sym (rw (ne_eqb mode 1 p, ne_eqb mode 2 q, ne_eqb mode 3 r))
 
-pub cost_small : (c : Costs) (g : ℕ) → (c.one ≤ 256) × (c.two ≤ 256) × (c.four ≤ 256) → cost_in c g ≤ 256
+pub cost_small : (c : Costs) (g : ℕ) → cost_in c g ≤ 256
 unfolding cost_in
-cost_small c g p = go (eqb g 1) (eqb g 2)
+cost_small c g = go (eqb g 1) (eqb g 2)
   where
     go : (s t : Bool) → cond s c.one (cond t c.two c.four) ≤ 256
-    go true t = p.0
-    go false true = p.1
-    go false false = p.2
+    go true t = c.few.0
+    go false true = c.few.1
+    go false false = c.few.2
 
 -- ---- the loop over six components
-pub tagged_most : (limit : Float) (x : List Float) (a i t : ℕ) → i ≤ a + 6 → t ≡ sum_over (tag_at limit x) a i → t ≤ 6
-tagged_most limit x a i t h e =
-    let f = tag_at limit x in
-    le_trans (le_of_eq e) (le_trans (sum_grows f a i (a + 6) h) (sum_run_le f 1 a 6 (λ k. one_small (le limit (size_of (get_or x k nan))))))
+pub tagged_most : (limit : Float) (v : List Float) (i t : ℕ) → i ≤ 6 → t ≡ sum_over (tag_at limit v) 0 i → t ≤ 6
+tagged_most limit v i t h e =
+    let f = tag_at limit v in
+    le_trans (le_of_eq e) (le_trans (sum_grows f 0 i 6 h) (sum_run_le f 1 0 6 (λ k. one_small (le limit (size_of (get_or v k nan))))))
 
 -- a count times a width
 pub product_most : (a b : ℕ) → a ≤ 12 → b ≤ 16 → a * b ≤ 192

@@ -7,8 +7,8 @@ use Prim.Native.Nat.{ℕ, ◌+◌, ◌*◌, ◌≤◌, ◌<◌}
 use native.Mathlib.Nat.{le_refl, le_trans}
 use native.Mathlib.Numerals.{add-one}
 use native.Mathlib.Omega.{arith}
-use lib.ListN.{length, get_or, drop, set, replicate, get_or-replicate}
-use lib.Seq.{drop-cons, set_at}
+use lib.ListN.{length, get_or, drop, length-drop, set, replicate, get_or-replicate}
+use lib.Seq.{drop-cons, set_at, length-take-le}
 use lib.Ieee.{Float}
 use Rattle.gains.specs.Gains.{active, other_gains, gain_word_bits}
 use Rattle.gains.proofs.Cases.{active_low, active_high}
@@ -18,10 +18,10 @@ use Rattle.channel.proofs.Over.{sum_none, sum_at_most, sum_turn}
 use Rattle.channel.proofs.Rows.{rank_turn, count_most, count_start}
 use Rattle.planner.specs.Cost.{bin_bits}
 use Rattle.planner.specs.Choice.{best_gain, least_at, least_of, gains_over}
-use Rattle.planner.specs.Work.{costs_of, cost_in, gain_in, plain_bits, no_tally, tally_at, with_bin, Small, TallyOf, TalliesOf, AllFew, payload_in, payload_at}
+use Rattle.planner.specs.Work.{CostsOf, cost_in, gain_in, plain_bits, no_tally, tally_at, with_bin, Small, TallyOf, TalliesOf, AllFew, payload_in, payload_at}
 use Rattle.planner.specs.declared.tally.Tally.{Tally}
-use Rattle.planner.specs.declared.Costs.{Costs}
-use Rattle.planner.proofs.Codes.{bin_scalar, cost_is, bin_most}
+use Rattle.planner.specs.declared.costs.Costs.{Costs}
+use Rattle.planner.proofs.Codes.{bin_scalar, bin_most}
 use Rattle.planner.proofs.Steps.{plain_is}
 use Rattle.planner.proofs.Optimal.{cheapest_same, gains_step, gains_stay, gains_none, gains_length}
 
@@ -64,7 +64,7 @@ module _ (row : List ℕ) (x : List Float) (start k plain mode : ℕ) (t : Tally
     tally_plain r room out er =
         let h = get_or row k 0 in
         let off : active mode h ≡ false = ⊎_elim (λ (l : h < 8). sym (active_low mode h l)) (λ (l : 16 < h). sym (active_high mode h l)) out in
-        let e : r ≡ least_at mode row x k = er ∙ plain_is h x (6 * k) room ∙ ap (λ (u : Bool). bin_bits h (cond u (best_gain mode row x k) 1) (six_of x k)) (sym off) in
+        let e : r ≡ least_at mode row x k = er ∙ plain_is h (six_of x k) (length-take-le 6 (drop (6 * k) x) (omega (arith, length-drop (6 * k) x))) ∙ ap (λ (u : Bool). bin_bits h (cond u (best_gain mode row x k) 1) (six_of x k)) (sym off) in
         let s = sum_turn (least_at mode row x) start k (plain + t.bits) r from is.bits_are e in
         record {
           bits_are = plus plain r t.bits ∙ s;
@@ -79,19 +79,19 @@ module _ (row : List ℕ) (x : List Float) (start k plain mode : ℕ) (t : Tally
         count_zero n = omega arith
 
     -- a bin of hebap 8 to 16
-    module _ (few : k < 256) (eight : 8 ≤ get_or row k 0) (c : Costs) (ec : c ≡ costs_of (get_or row k 0) (six_of x k)) where
+    module _ (few : k < 256) (eight : 8 ≤ get_or row k 0) (c : Costs) (ec : CostsOf (get_or row k 0) (six_of x k) c) where
       gain_is : gain_in mode c ≡ best_gain mode row x k
       unfolding gain_in best_gain
       gain_is =
           let h = get_or row k 0 in
-          ap (gain_in mode) ec ∙ cheapest_same (cost_in (costs_of h (six_of x k))) (λ g. bin_bits h g (six_of x k)) 1 (other_gains mode) (λ g. cost_is h g (six_of x k) ∙ sym (bin_scalar h g (six_of x k) eight))
+          cheapest_same (cost_in c) (λ g. bin_bits h g (six_of x k)) 1 (other_gains mode) (λ g. ec g ∙ sym (bin_scalar h g (six_of x k) eight))
 
       least_is : cost_in c (cond (active mode (get_or row k 0)) (gain_in mode c) 1) ≡ least_at mode row x k
       unfolding least_at
       least_is =
           let h = get_or row k 0 in
           let g = cond (active mode h) (gain_in mode c) 1 in
-          ap (λ (d : Costs). cost_in d g) ec ∙ cost_is h g (six_of x k) ∙ sym (bin_scalar h g (six_of x k) eight)
+          ec g ∙ sym (bin_scalar h g (six_of x k) eight)
           ∙ ap (λ (z : ℕ). bin_bits h (cond (active mode h) z 1) (six_of x k)) gain_is
 
       -- one gain more, in the place of the first zero

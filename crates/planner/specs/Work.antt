@@ -11,7 +11,7 @@ use Rattle.quantiser.specs.Quantise.{picked, codes_bits}
 use Rattle.channel.specs.Bins.{sum_over}
 use Rattle.channel.specs.Row.{no_gains, active_count, RowOk}
 use Rattle.planner.specs.Choice.{cheapest, least_at, gains_over}
-use Rattle.planner.specs.declared.Costs.{Costs}
+use Rattle.planner.specs.declared.costs.Costs.{Costs}
 use Rattle.planner.specs.declared.Limits.{Limits}
 use Rattle.planner.specs.declared.tally.Tally.{Tally}
 
@@ -28,28 +28,28 @@ unfoldable pub limits_of : ℕ → Limits
 limits_of h = let m = mant_bits h in record { two = limit_of (m - 1) (m - 1); four = limit_of (m - 1) (m - 2) }
 
 -- ---- one bin
--- the component at the place i of the vectors, at the gain g: the bits of the quantiser's code
+-- the component i, at the gain g: the bits of the quantiser's code
 unfoldable pub component_bits : ℕ → ℕ → List Float → ℕ → ℕ
-component_bits h g x i = code_bits (mant_bits h) g (picked h g (get_or x i nan)).0
+component_bits h g v i = code_bits (mant_bits h) g (picked h g (get_or v i nan)).0
 
--- six codes, where the six components start at the place a: codes_bits of them, by the law six_codes
-unfoldable pub six_bits : ℕ → List Float → ℕ → ℕ → ℕ
-six_bits h x a g = sum_over (component_bits h g x) a (a + 6)
+-- six codes: codes_bits of them, by the law six_codes
+unfoldable pub six_bits : ℕ → List Float → ℕ → ℕ
+six_bits h v g = sum_over (component_bits h g v) 0 6
 
 -- one for a component that takes the tag
 abbrev pub tag_at : Float → List Float → ℕ → ℕ
-tag_at limit x k = cond (le limit (size_of (get_or x k nan))) 1 0
+tag_at limit v i = cond (le limit (size_of (get_or v i nan))) 1 0
 
 -- six codes of the bits small, and large more behind each tag
-unfoldable pub tagged_bits : List Float → ℕ → Float → ℕ → ℕ → ℕ
-tagged_bits x a limit small large = 6 * small + sum_over (tag_at limit x) a (a + 6) * large
-
--- six components at Gk 1, 2 and 4
-unfoldable pub costs_of : ℕ → List Float → Costs
-costs_of h v = record { one = codes_bits h 1 v; two = codes_bits h 2 v; four = codes_bits h 4 v }
+unfoldable pub tagged_bits : List Float → Float → ℕ → ℕ → ℕ
+tagged_bits v limit small large = 6 * small + sum_over (tag_at limit v) 0 6 * large
 
 unfoldable pub cost_in : Costs → ℕ → ℕ
 cost_in c g = cond (eqb g 1) c.one (cond (eqb g 2) c.two c.four)
+
+-- those of the codes of six components
+abbrev pub CostsOf : ℕ → List Float → Costs → Type 0
+CostsOf h v c = (g : ℕ) → cost_in c g ≡ codes_bits h g v
 
 unfoldable pub gain_in : ℕ → Costs → ℕ
 gain_in mode c = cheapest (cost_in c) 1 (other_gains mode)

@@ -1,12 +1,12 @@
 // The bits of a bin, by the size of its components alone.
-ghost use Rattle.std.specs.Prelude.{◌≡◌, cond, ◌+◌, ◌≤◌, length, take, drop};
+ghost use Rattle.std.specs.Prelude.{◌≡◌, cond, ◌≤◌, length};
 ghost use Rattle.gains.specs.Gains.{active};
 ghost use Rattle.quantiser.specs.Quantise.{codes_bits};
 ghost use Rattle.planner.specs.Cost.{bin_bits};
-ghost use Rattle.planner.specs.Choice.{cheaper};
-ghost use Rattle.planner.specs.Work.{size_of, limits_of, tagged_bits, costs_of, cost_in, gain_in, plain_bits};
+ghost use Rattle.planner.specs.Work.{size_of, limits_of, tagged_bits, CostsOf, plain_bits};
 
-use super::{Costs, Limits};
+use super::Limits;
+use super::costs::Costs;
 
 fn limits_for(hebap: u8) -> Limits
     requires { (8 ≤ hebap) × (hebap ≤ 16) }
@@ -61,62 +61,31 @@ fn size(x: f32) -> f32
 // Six codes of the bits small, and large more behind each tag. How many take the tag is counted, which the machine does
 // for several together.
 #[tactic(auto, using(crate::proofs::Steps::tagged_most, crate::proofs::Steps::product_most, channel::proofs::Over::one_small))]
-fn tagged_bits(x: &[f32], a: usize, limit: f32, small: u32, large: u32) -> u32
-    requires a_in_bounds { a + 6 ≤ length x.now }
+fn tagged_bits(x: &[f32], limit: f32, small: u32, large: u32) -> u32
+    requires six { length x.now ≡ 6 }
     requires small_bound { (small ≤ 16) × (large ≤ 16) }
-    ensures { result ≡ tagged_bits x.now a limit small large }
+    ensures { result ≡ tagged_bits x.now limit small large }
 {
     let mut n: u32 = 0;
-    for &component in &x[a..a + 6] {
+    for &component in x {
         n += u32::from(size(component) >= limit);
     }
     6 * small + n * large
 }
 
 // The bits of six components at each gain.
-pub fn gain_costs(hebap: u8, x: &[f32], a: usize) -> Costs
+#[tactic(auto, using(crate::proofs::Steps::width, crate::proofs::Steps::costs_few, crate::proofs::Steps::costs_are))]
+pub fn gain_costs(hebap: u8, x: &[f32]) -> Costs
     requires le_hebap { (8 ≤ hebap) × (hebap ≤ 16) }
-    requires a_in_bounds { a + 6 ≤ length x.now }
-    ensures { result ≡ costs_of hebap (take 6 (drop a x.now)) }
+    requires six { length x.now ≡ 6 }
+    ensures { CostsOf hebap x.now result }
 {
     let m = levels::mant(hebap);
     let l = limits_for(hebap);
     Costs {
         one: 6 * m,
-        two: tagged_bits(x, a, l.two, m - 1, m - 1),
-        four: tagged_bits(x, a, l.four, m - 2, m),
-    }
-}
-
-pub fn cost_at(c: Costs, gain: u8) -> u32
-    ensures { result ≡ cost_in c gain }
-{
-    match gain {
-        1 => c.one,
-        2 => c.two,
-        _ => c.four,
-    }
-}
-
-fn cheaper_gain(c: Costs, gain: u8, next: u8) -> u8
-    ensures { result ≡ cheaper (cost_in c) gain next }
-{
-    if cost_at(c, next) < cost_at(c, gain) {
-        next
-    } else {
-        gain
-    }
-}
-
-// The cheapest gain that the mode allows, the lower one of equals.
-pub fn best_gain(mode: u8, c: Costs) -> u8
-    ensures { result ≡ gain_in mode c }
-{
-    match mode {
-        1 => cheaper_gain(c, 1, 2),
-        2 => cheaper_gain(c, 1, 4),
-        3 => cheaper_gain(c, cheaper_gain(c, 1, 2), 4),
-        _ => 1,
+        two: tagged_bits(x, l.two, m - 1, m - 1),
+        four: tagged_bits(x, l.four, m - 2, m),
     }
 }
 
@@ -132,28 +101,27 @@ pub fn plain_bits(hebap: u8) -> u32
 
 // The bits of six components at one gain.
 #[tactic(auto, using(crate::proofs::Steps::width, crate::proofs::Steps::bits_1, crate::proofs::Steps::bits_2, crate::proofs::Steps::bits_4))]
-fn gain_bits(hebap: u8, x: &[f32], a: usize, gain: u8) -> u32
+fn gain_bits(hebap: u8, x: &[f32], gain: u8) -> u32
     requires le_hebap { (8 ≤ hebap) × (hebap ≤ 16) }
-    requires a_in_bounds { a + 6 ≤ length x.now }
-    ensures { result ≡ codes_bits hebap gain (take 6 (drop a x.now)) }
+    requires six { length x.now ≡ 6 }
+    ensures { result ≡ codes_bits hebap gain x.now }
 {
     let m = levels::mant(hebap);
     let l = limits_for(hebap);
     match gain {
         1 => 6 * m,
-        2 => tagged_bits(x, a, l.two, m - 1, m - 1),
-        _ => tagged_bits(x, a, l.four, m - 2, m),
+        2 => tagged_bits(x, l.two, m - 1, m - 1),
+        _ => tagged_bits(x, l.four, m - 2, m),
     }
 }
 
 // The bits of a bin, at the gain where it is active. gain_costs is left to tally_bins alone, so that the compiler puts
 // it into that loop in place of a call: with a call of it here, plan took 9 % longer.
-pub fn bin_bits(mode: u8, hebap: u8, x: &[f32], a: usize, gain: u8) -> u32
-    requires { a + 6 ≤ length x.now }
-    ensures { result ≡ bin_bits hebap (cond (active mode hebap) gain 1) (take 6 (drop a x.now)) }
+pub fn bin_bits(mode: u8, hebap: u8, gain: u8, x: &[f32; 6]) -> u32
+    ensures { result ≡ bin_bits hebap (cond (active mode hebap) gain 1) x.now }
 {
     if gains::is_active(mode, hebap) {
-        return gain_bits(hebap, x, a, gain);
+        return gain_bits(hebap, x, gain);
     }
     plain_bits(hebap)
 }

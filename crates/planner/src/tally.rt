@@ -1,9 +1,11 @@
 // What is kept of each mode while the bins are gone through, and the mode of least payload.
 ghost use Rattle.std.specs.Prelude.{◌≡◌, ℕ, ◌+◌, ◌<◌, ◌≤◌, length, replicate};
 ghost use Rattle.planner.specs.Choice.{least_up_to};
-ghost use Rattle.planner.specs.Work.{no_tally, tally_at, with_bin, Small, AllSmall, TalliesOf, AllFew, payload_in, payload_at, Within};
+ghost use Rattle.planner.specs.Work.{no_tally, tally_at, with_bin, Small, AllSmall, TalliesOf, AllFew, payload_in, payload_at};
 
-use super::{Costs, one_bin};
+use super::costs::Costs;
+use super::one_bin;
+use super::vectors::BinVectors;
 
 // One mode: the bits of the bins of hebap 8 to 16, how many of them are active, and their gains, then zeros.
 #[derive(Clone, Copy)]
@@ -28,15 +30,14 @@ impl Tally {
     // One bin more: its bits at the cheapest gain, and where it is active that gain behind the gains before it.
     #[tactic(auto, using(crate::proofs::Steps::cost_small))]
     fn add(&mut self, mode: u8, hebap: u8, c: Costs)
-        requires small { Small self.old }
-        requires one_bound { (c.one ≤ 256) × (c.two ≤ 256) × (c.four ≤ 256) }
+        requires { Small self.old }
         ensures { self.new ≡ with_bin mode hebap c self.old }
     {
         if gains::is_active(mode, hebap) {
-            let gain = one_bin::best_gain(mode, c);
+            let gain = c.best_gain(mode);
             self.gains[self.count as usize] = gain;
             self.count += 1;
-            self.bits += one_bin::cost_at(c, gain);
+            self.bits += c.at(gain);
         } else {
             self.bits += c.one;
         }
@@ -52,10 +53,8 @@ impl Tally {
 }
 
 // One bin in every mode.
-fn tally_bin(hebap: u8, c: Costs, tallies: &mut [Tally])
-    requires four { length tallies.old ≡ 4 }
-    requires all_small { AllSmall tallies.old }
-    requires one_bound { (c.one ≤ 256) × (c.two ≤ 256) × (c.four ≤ 256) }
+fn tally_bin(hebap: u8, c: Costs, tallies: &mut [Tally; 4])
+    requires { AllSmall tallies.old }
     ensures { (m : ℕ) → m ≤ 3 → tally_at tallies.new m ≡ with_bin m hebap c (tally_at tallies.old m) }
 {
     for mode in 0..4 {
@@ -65,17 +64,16 @@ fn tally_bin(hebap: u8, c: Costs, tallies: &mut [Tally])
 }
 
 // All bins; returns the bits of those that are active in no mode. The costs of a bin are counted once for all modes.
-pub fn tally_bins(row: &[u8], start: usize, end: usize, x: &[f32], tallies: &mut [Tally]) -> u32
-    requires within { Within row.now start end x.now }
-    requires tallies_new { tallies.old ≡ replicate 4 no_tally }
-    ensures { TalliesOf row.now x.now start end result tallies.new }
+pub fn tally_bins(v: BinVectors, tallies: &mut [Tally; 4]) -> u32
+    requires { tallies.old ≡ replicate 4 no_tally }
+    ensures { TalliesOf v.entry.bins.row.now v.entry.x.now v.entry.bins.start v.entry.bins.end result tallies.new }
 {
     let mut plain: u32 = 0;
-    for bin in start..end {
-        let hebap = row[bin];
+    for bin in v.bins.start..v.bins.end {
+        let hebap = v.bins.row[bin];
         match hebap {
             8..=16 => {
-                let c = one_bin::gain_costs(hebap, x, 6 * bin);
+                let c = one_bin::gain_costs(hebap, v.six(bin));
                 tally_bin(hebap, c, &mut *tallies);
             }
             _ => {
@@ -87,9 +85,8 @@ pub fn tally_bins(row: &[u8], start: usize, end: usize, x: &[f32], tallies: &mut
 }
 
 // The mode of least payload, the lowest of equals.
-pub fn best_mode(plain: u32, tallies: &[Tally]) -> u8
-    requires four { length tallies.now ≡ 4 }
-    requires all_few { AllFew plain tallies.now }
+pub fn best_mode(plain: u32, tallies: &[Tally; 4]) -> u8
+    requires { AllFew plain tallies.now }
     ensures { result ≡ least_up_to (payload_at plain tallies.now) 3 }
 {
     let mut best: u8 = 0;

@@ -51,13 +51,19 @@ slice_bounds-gains-end c = let p = c.args.plan in sym (length-take-le p.count p.
 pub shared_ref_as_front-gains : goal.shared_ref_as_front-gains
 shared_ref_as_front-gains c = let r = (fit (goal.at.shared_ref_as_front-gains c).In_ok-check_plan).room in search rules
 
+pub invariant_of-bins : goal.invariant_of-bins
+invariant_of-bins c = let r = (fit (goal.at.invariant_of-bins c).In_ok-check_plan).within.row_ok in record { ordered = r.ordered; few = r.few; rows = r.rows; known = r.known }
+
+pub invariant_of-put_cells : goal.invariant_of-put_cells
+invariant_of-put_cells c = record { vectors = (fit (goal.at.invariant_of-put_cells c).In_ok-check_plan).within.vectors }
+
 pub put_cells-requires : goal.put_cells-requires
 unfolding page_count
 put_cells-requires c = let a = c.args in
     let e : length c.put_blank.new.out ≡ length a.out.now = c.put_blank.auto.out in
     let q = places_enough a.start a.end in
     let p = place_end _ _ q in
-    record { within = (fit (goal.at.put_cells-requires c).In_ok-check_plan).within; start_in_bounds = omega arith }
+    omega arith
 
 pub overflow_mul-result : goal.overflow_mul-result
 overflow_mul-result c = let w = (fit (goal.at.overflow_mul-result c).In_ok-check_plan).within.row_ok.few in

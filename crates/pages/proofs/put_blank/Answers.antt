@@ -1,9 +1,10 @@
 -- `pages::put_blank` meets its contract. Assumes nothing.
 use native.Mathlib.Omega.{arith}
+use borrow.Author.Rules.{rules}
 use Prim.Native.Nat.{◌+◌, ◌*◌}
 use mathlib.Core.Path.{◌≡◌, refl, ◌∙◌}
 use lib.ListN.{length, length-set}
-use Rattle.pages.proofs.Cells.{blank_none, blank_turn}
+use Rattle.pages.proofs.Cells.{part, spaces_put, blank_none, blank_turn}
 use Rattle.pages.proofs.put_blank.Goals as goal
 
 pub loop-line-init : goal.loop-line-init
@@ -14,5 +15,5 @@ loop-line-preserved c =
     let i = c.loop-line.line in
     let r = c.requires in
     let e : length c.loop-line.out ≡ length c.args.out.now = c.loop-line.invariant.0 in
-    let k : length c.put_spaces.new.out ≡ length c.loop-line.out = c.put_spaces.auto.out in
-    (length-set c.put_spaces.new.out (65 * i + 64) 10 ∙ k ∙ e, blank_turn c.args.out.now c.loop-line.out c.put_spaces.new.out i (omega arith) c.loop-line.invariant.1 c.put_spaces.ensures)
+    let p = spaces_put c.loop-line.out c.fill.new.self (65 * i) 64 (omega arith) (c.fill.ensures.after (λ y h. search rules)) in
+    (length-set _ (65 * i + 64) 10 ∙ (part 64 refl (omega arith) refl p).long ∙ e, blank_turn c.args.out.now c.loop-line.out _ i (omega arith) c.loop-line.invariant.1 p)

@@ -7,4 +7,4 @@ use Rattle.pages.specs.Work.{with_cells}
 use Rattle.pages.proofs.put_cells.Given as goal
 
 abbrev pub invariant-loop-bin : goal.invariant-loop-bin
-invariant-loop-bin l = (l.n ≡ active_count l.mode l.row l.start l.bin) × (length l.out ≡ length l.initial.out) × (l.out ≡ with_cells (cell_text_at l.mode l.gains l.row l.x l.start) l.start l.bin l.initial.out)
+invariant-loop-bin l = (l.n ≡ active_count l.mode l.v.bins.row.now l.v.bins.start l.bin) × (length l.out ≡ length l.initial.out) × (l.out ≡ with_cells (cell_text_at l.mode l.gains l.v.bins.row.now l.v.x.now l.v.bins.start) l.v.bins.start l.bin l.initial.out)

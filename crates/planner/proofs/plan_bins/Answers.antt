@@ -10,14 +10,14 @@ use Rattle.planner.proofs.plan_bins.Goals.{After-tally_bins-plain, After-best_mo
 
 -- no mode has many bits or gains
 few : (c : After-tally_bins-plain) → AllFew c.tally_bins-plain.result c.tally_bins-plain.new.tallies
-few c = let t = c.tally_bins-plain in all_few c.args.row.now c.args.x.now c.args.start c.args.end t.result t.new.tallies t.ensures c.requires.row_ok.few
+few c = let t = c.tally_bins-plain in all_few c.args.v.bins.row.now c.args.v.x.now c.args.v.bins.start c.args.v.bins.end t.result t.new.tallies t.ensures c.args.v.bins.few
 
 -- the mode is one of the four
 most : (c : After-best_mode-mode) → c.best_mode-mode.result ≤ 3
-most c = let a = c.args in let t = c.tally_bins-plain in mode_most a.row.now a.x.now a.start a.end t.result t.new.tallies t.ensures c.best_mode-mode.result c.best_mode-mode.ensures
+most c = let a = c.args in let t = c.tally_bins-plain in mode_most a.v.bins.row.now a.v.x.now a.v.bins.start a.v.bins.end t.result t.new.tallies t.ensures c.best_mode-mode.result c.best_mode-mode.ensures
 
-pub best_mode-mode-requires-clause-all_few : goal.best_mode-mode-requires-clause-all_few
-best_mode-mode-requires-clause-all_few c = few (goal.at.best_mode-mode-requires-clause-all_few c).After-tally_bins-plain
+pub best_mode-mode-requires : goal.best_mode-mode-requires
+best_mode-mode-requires c = few (goal.at.best_mode-mode-requires c).After-tally_bins-plain
 
 pub bounds-tallies-mode : goal.bounds-tallies-mode
 bounds-tallies-mode c = omega (arith, most (goal.at.bounds-tallies-mode c).After-best_mode-mode)
@@ -29,4 +29,4 @@ pub returns : goal.returns
 returns c =
     let a = c.args in
     let t = c.tally_bins-plain in
-    plan_is a.row.now a.x.now a.start a.end t.result t.new.tallies t.ensures c.best_mode-mode.result c.best_mode-mode.ensures _ c.payload-payload.result refl c.payload-payload.ensures
+    plan_is a.v.bins.row.now a.v.x.now a.v.bins.start a.v.bins.end t.result t.new.tallies t.ensures c.best_mode-mode.result c.best_mode-mode.ensures _ c.payload-payload.result refl c.payload-payload.ensures

@@ -6,4 +6,4 @@ use Rattle.planner.specs.Choice.{chosen_at}
 use Rattle.planner.proofs.fit.chosen_bits.Given as goal
 
 abbrev pub invariant-loop-bin : goal.invariant-loop-bin
-invariant-loop-bin l = (l.n ≡ active_count l.mode l.row l.start l.bin) × (l.bits ≡ sum_over (chosen_at l.mode l.gains l.row l.x l.start) l.start l.bin)
+invariant-loop-bin l = (l.n ≡ active_count l.mode l.v.bins.row.now l.v.bins.start l.bin) × (l.bits ≡ sum_over (chosen_at l.mode l.gains l.v.bins.row.now l.v.x.now l.v.bins.start) l.v.bins.start l.bin)

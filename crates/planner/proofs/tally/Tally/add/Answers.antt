@@ -7,7 +7,7 @@ use Rattle.planner.proofs.tally.Tally.add.Goals as goal
 
 pub returns-then-is_active : goal.returns-then-is_active
 unfolding with_bin
-returns-then-is_active c = rw (sym c.is_active.ensures ∙ c.if-is_active.true, c.cost_at.ensures, c.best_gain-gain.ensures)
+returns-then-is_active c = rw (sym c.is_active.ensures ∙ c.if-is_active.true, c.at.ensures, c.best_gain-gain.ensures)
 
 pub returns-else-is_active : goal.returns-else-is_active
 unfolding with_bin cost_in

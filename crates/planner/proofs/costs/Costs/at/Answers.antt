@@ -1,8 +1,8 @@
--- `planner::one_bin::cost_at` meets its contract. Assumes nothing.
+-- `planner::costs::Costs::at` meets its contract. Assumes nothing.
 use borrow.Author.Tests.{ne_eqb}
 use native.Mathlib.Omega.{arith}
 use Rattle.planner.specs.Work.{cost_in}
-use Rattle.planner.proofs.one_bin.cost_at.Goals as goal
+use Rattle.planner.proofs.costs.Costs.at.Goals as goal
 
 pub returns-in-1 : goal.returns-in-1
 unfolding cost_in
