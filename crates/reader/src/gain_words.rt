@@ -9,7 +9,13 @@ use answers::Refusal;
 use bits::BitPos;
 
 // The gain words of mode 1 or 2: a bit for each of n gains, which go to the front of the output.
-pub fn read_gain_bits(src: &[u8], pos: BitPos, mode: u8, n: usize, gains: &mut [u8]) -> Result<BitPos, Refusal>
+pub fn read_gain_bits(
+    src: &[u8],
+    pos: BitPos,
+    mode: u8,
+    n: usize,
+    gains: &mut [u8],
+) -> Result<BitPos, Refusal>
     requires le_mode { (1 ≤ mode) × (mode ≤ 2) }
     requires inside { Inside (8 * length src.now) pos }
     requires n_in_bounds { n ≤ length gains.old }
@@ -63,7 +69,12 @@ pub fn put_gains(gains: &mut [u8], i: usize, left: usize, word: u32)
 
 // Mode 3: a word of five bits for three gains, n gains in all, which go to the front of the output. Refuses with 9 a
 // word above 26, with 10 an unused code that is not 0.
-pub fn read_group_words(src: &[u8], pos: BitPos, n: usize, gains: &mut [u8]) -> Result<BitPos, Refusal>
+pub fn read_group_words(
+    src: &[u8],
+    pos: BitPos,
+    n: usize,
+    gains: &mut [u8],
+) -> Result<BitPos, Refusal>
     requires inside { Inside (8 * length src.now) pos }
     requires n_in_bounds { n ≤ length gains.old }
     ensures { Reads (move_answer (8 * length src.now)) ((group_words n).dec (bits_from src.now pos)) result
@@ -87,7 +98,13 @@ pub fn read_group_words(src: &[u8], pos: BitPos, n: usize, gains: &mut [u8]) -> 
 }
 
 // The gain words of a mode for n active bins; the gains go to the front of the output.
-pub fn read_gains(src: &[u8], pos: BitPos, mode: u8, n: usize, gains: &mut [u8]) -> Result<BitPos, Refusal>
+pub fn read_gains(
+    src: &[u8],
+    pos: BitPos,
+    mode: u8,
+    n: usize,
+    gains: &mut [u8],
+) -> Result<BitPos, Refusal>
     requires mode_bound { mode ≤ 3 }
     requires inside { Inside (8 * length src.now) pos }
     requires n_in_bounds { n ≤ length gains.old }
