@@ -53,13 +53,12 @@ fn read_known(
     src: &[u8],
     pos: BitPos,
     bins: Bins,
-    gains: &mut [u8],
+    gains: &mut [u8; 256],
     values: &mut [f32],
     exact: &mut [i32],
     indices: &mut [u16],
 ) -> Result<FieldEnd, Refusal>
     requires inside { Inside (8 * length src.now) pos }
-    requires gains_len { length gains.old ≡ 256 }
     requires long { Long bins.end (outputs values.old exact.old indices.old) }
     ensures reads { Reads (field_answer (8 * length src.now))
         ((field bins.entry.row.now bins.entry.start bins.entry.end).dec (bits_from src.now pos)) result

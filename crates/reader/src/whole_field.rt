@@ -32,24 +32,24 @@ pub fn read_bins(
     for bin in bins.start..bins.end {
         let hebap = bins.hebap(bin);
         let gk = channel::gain_at(gains, n);
-        p = one_bin::read_bin(src, p, mode, hebap, gk, bin, &mut *scratch)?;
         n += channel::gains_used(mode, hebap);
+        p = one_bin::read_bin(src, p, mode, hebap, gk, bin, &mut *scratch)?;
     }
     Ok(p)
 }
 
 // The gain words and the bins, behind the two bits of the mode.
+#[tactic(auto, using(channel::proofs::Rows::count_most))]
 pub fn read_behind(
     src: &[u8],
     pos: BitPos,
     mode: u8,
     bins: Bins,
-    gains: &mut [u8],
+    gains: &mut [u8; 256],
     scratch: &mut Scratch,
 ) -> Result<FieldEnd, Refusal>
     requires mode_bound { mode ≤ 3 }
     requires inside { Inside (8 * length src.now) pos }
-    requires gains_len { length gains.old ≡ 256 }
     ensures { Reads (behind_answer mode (8 * length src.now)) ((behind_mode lenient bins.entry.row.now bins.entry.start bins.entry.end mode
         ).dec (bits_from src.now pos)) result
         (λ c. GainsPut gains.old gains.new c.0
@@ -70,11 +70,10 @@ pub fn read_field(
     src: &[u8],
     pos: BitPos,
     bins: Bins,
-    gains: &mut [u8],
+    gains: &mut [u8; 256],
     scratch: &mut Scratch,
 ) -> Result<FieldEnd, Refusal>
     requires inside { Inside (8 * length src.now) pos }
-    requires gains_len { length gains.old ≡ 256 }
     ensures { Reads (field_answer (8 * length src.now)) ((field bins.entry.row.now bins.entry.start bins.entry.end).dec (bits_from src.now pos)) result
         (λ c. GainsPut gains.old gains.new c.gains
         × BinsPut bins.entry.start (bins_in bins.entry.row.now bins.entry.start bins.entry.end c) scratch.old scratch.new c.items) }
