@@ -43,11 +43,11 @@ filled_more v v' v'' l new l' at up up' f e u h g =
       ends = rw (e, length-append) (omega arith);
     }
 
--- ---- the loop
--- as many places as the type says
+-- buffers of as many places as their type says
 abbrev pub Sized : Scratch → Type 0
 Sized s = (length s.values ≡ 1536) × (length s.exact ≡ 1536) × (length s.indices ≡ 256)
 
+-- ---- the loop
 module _ (mode : ℕ) (row gains : List ℕ) (start end : ℕ) (s : List ℕ) (from : ℕ) (o : Scratch) where
   abbrev pub bin : ℕ → Bin
   bin = bin_at mode gains row start

@@ -63,6 +63,6 @@ module _ (row : List ℕ) (start end : ℕ) (c : Call) (p : BitPos) (at : bit_at
           ∙ ap {B = Result ChannelRead Refusal} (λ (k : ℕ). Ok (record { mode = d.mode; gains = d.gains ++ drop (length d.gains) no_gains; count = length d.gains; bits = k })) b
       go (refused k) g w = refl
 
-  -- so of a field that was read the answer follows
-  pub answered_lem : (r : Result FieldEnd Refusal) (gains : List ℕ) → Reads (field_answer n) seen r (λ d. GainsPut no_gains gains d.gains) → answer_with gains p r ≡ answer_to row start end c
-  answered_lem r gains e = ap (answer_with gains p) e.is ∙ answer_is gains e.left
+  -- so the answer follows from what was read
+  pub answer_follows : (r : Result FieldEnd Refusal) (gains : List ℕ) → Reads (field_answer n) seen r (λ d. GainsPut no_gains gains d.gains) → answer_with gains p r ≡ answer_to row start end c
+  answer_follows r gains e = ap (answer_with gains p) e.is ∙ answer_is gains e.left

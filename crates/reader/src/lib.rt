@@ -105,7 +105,7 @@ pub fn read_aht_channel(
     ensures indices_after { indices.new ≡ indices_after hebap.now start end
         (call src.now (bit_at pos) values.old exact.old indices.old) }
 {
-    // Zeroed before the row is looked at: behind it, a call takes some 3% longer.
+    // Zeroed before the row is looked at: behind it, a call takes some 4% longer.
     let mut scratch = Scratch {
         values: [0.0; 1536],
         exact: [0; 1536],

@@ -17,7 +17,7 @@ use Rattle.channel.specs.Row.{row_cause, no_gains}
 use Rattle.reader.specs.Reading.{Call, call, read_cause, found}
 use Rattle.reader.specs.Work.{Reads, outputs, FoundPut, GainsPut, Near, field_answer}
 use Rattle.reader.proofs.Causes.{read_none, found_cause, found_past, found_field}
-use Rattle.reader.proofs.Reach.{near, answered_lem}
+use Rattle.reader.proofs.Reach.{near, answer_follows}
 use Rattle.reader.proofs.read_aht_channel.Goals as goal
 use Rattle.reader.proofs.read_aht_channel.Goals.{After-check_row, In_ok-check_row, After-read_known}
 
@@ -71,7 +71,7 @@ returns-in_err-field c =
     let a = c.args in
     let at = goal.at.returns-in_err-field c in
     let s = seen at.After-read_known (none at.In_ok-check_row) in
-    let r = answered_lem a.hebap.now a.start a.end _ a.pos refl _ _ s.0 in
+    let r = answer_follows a.hebap.now a.start a.end _ a.pos refl _ _ s.0 in
     rw (passed_on c.from_residual-in_err-field.ensures) record { value = rw c.in_err-field.was at r; values_after = s.1.0; exact_after = s.1.1; indices_after = s.1.2 }
 
 pub bits_between-requires : goal.bits_between-requires
@@ -86,5 +86,5 @@ returns c =
     let a = c.args in
     let at = goal.at.returns c in
     let s = seen at.After-read_known (none at.In_ok-check_row) in
-    let r = answered_lem a.hebap.now a.start a.end _ a.pos refl _ _ s.0 in
+    let r = answer_follows a.hebap.now a.start a.end _ a.pos refl _ _ s.0 in
     rw c.bits_between.ensures record { value = rw c.in_ok-field.was at r; values_after = s.1.0; exact_after = s.1.1; indices_after = s.1.2 }
