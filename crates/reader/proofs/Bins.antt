@@ -23,7 +23,8 @@ use Rattle.channel.proofs.Over.{over_next, over_end}
 use Rattle.channel.proofs.Rows.{bin_is}
 use Rattle.channel.proofs.Laws.{lenient_laws, item_lawful}
 use Rattle.channel.proofs.Shown.{shows_end, joined_end, item_values_long, item_exacts_long}
-use Rattle.reader.specs.Work.{Reads, Outputs, Long, BinPut, BinsPut}
+use Rattle.reader.specs.Work.{Reads, BinPut, BinsPut}
+use Rattle.reader.specs.declared.scratch.Scratch.{Scratch}
 
 -- ---- an output in which a list stands from a place on, up to another
 pub record Filled {A : Type 0} (v v' : List A) (at up : ℕ) (l : List A) : Type 0 where
@@ -42,13 +43,17 @@ filled_more v v' v'' l new l' at up up' f e u h g =
       ends = rw (e, length-append) (omega arith);
     }
 
+-- buffers of as many places as their type says
+abbrev pub Sized : Scratch → Type 0
+Sized s = (length s.values ≡ 1536) × (length s.exact ≡ 1536) × (length s.indices ≡ 256)
+
 -- ---- the loop
-module _ (mode : ℕ) (row gains : List ℕ) (start end : ℕ) (s : List ℕ) (from : ℕ) (o : Outputs) where
+module _ (mode : ℕ) (row gains : List ℕ) (start end : ℕ) (s : List ℕ) (from : ℕ) (o : Scratch) where
   abbrev pub bin : ℕ → Bin
   bin = bin_at mode gains row start
 
   -- the bins before k with their items, and where they and the rest stand
-  pub record SoFar (p : BitPos) (k : ℕ) (o' : Outputs) : Type 0 where
+  pub record SoFar (p : BitPos) (k : ℕ) (o' : Scratch) : Type 0 where
     pub bs : List Bin
     pub xs : List Item
     pub paired : length bs ≡ length xs
@@ -74,7 +79,7 @@ module _ (mode : ℕ) (row gains : List ℕ) (start end : ℕ) (s : List ℕ) (f
         indices = filled_none o.indices start;
       }
 
-module _ {mode : ℕ} {row gains : List ℕ} {start end : ℕ} {s : List ℕ} {from : ℕ} {o : Outputs} {p : BitPos} {k : ℕ} {o' : Outputs}
+module _ {mode : ℕ} {row gains : List ℕ} {start end : ℕ} {s : List ℕ} {from : ℕ} {o : Scratch} {p : BitPos} {k : ℕ} {o' : Scratch}
     (f : SoFar mode row gains start end s from o p k o') where
   abbrev whole : List Bin
   whole = bins_of mode gains row start end
@@ -93,9 +98,9 @@ module _ {mode : ℕ} {row gains : List ℕ} {start end : ℕ} {s : List ℕ} {f
     next : over (bin mode row gains start end s from o) k end ≡ b ∷ later
     next = over_next (bin mode row gains start end s from o) k end more ∙ ap (λ (d : Bin). d ∷ later) (sym (bin_is mode gains row start k n h g eh en eg))
 
-    pub one_more_lem : (q : BitPos) (o'' : Outputs) → Long end o → (G : Got Item) → (item lenient b).dec here ≡ G → Reads (move_answer (8 * length s)) G (Ok q) (BinPut k b o' o'')
+    pub one_more_lem : (q : BitPos) (o'' : Scratch) → Sized o → end ≤ 256 → (G : Got Item) → (item lenient b).dec here ≡ G → Reads (move_answer (8 * length s)) G (Ok q) (BinPut k b o' o'')
         → SoFar mode row gains start end s from o q (k + 1) o''
-    one_more_lem q o'' l (got y rest) d r =
+    one_more_lem q o'' l few (got y rest) d r =
         let lawful = item_lawful lenient lenient_laws b in
         let ok = (lawful.sole here rest y d).1 in
         let lv = item_values_long lenient mode h g y ok in
@@ -115,10 +120,10 @@ module _ {mode : ℕ} {row gains : List ℕ} {start end : ℕ} {s : List ℕ} {f
           exacts = filled_more o.exact o'.exact o''.exact _ (exacts_of b y) _ (6 * start) (6 * k) (6 * (k + 1)) f.exacts (joined_end exacts_of f.bs f.xs b y f.paired) (omega arith) (omega arith) w.1;
           indices = filled_more o.indices o'.indices o''.indices _ (index_of b y ∷ []) _ start k (k + 1) f.indices (shows_end index_of f.bs f.xs b y f.paired) (omega arith) (omega arith) w.2;
         }
-    one_more_lem q o'' l (refused j) d r = let t = r.is in let z : ◌≡◌ {A = ℕ} 0 1 = cc in absurd (omega arith)
+    one_more_lem q o'' l few (refused j) d r = let t = r.is in let z : ◌≡◌ {A = ℕ} 0 1 = cc in absurd (omega arith)
 
     -- the bin is refused
-    pub cut : (j : Refusal) (o'' : Outputs) (G : Got Item) → (item lenient b).dec here ≡ G → Err j ≡ move_answer (8 * length s) G
+    pub cut : (j : Refusal) (o'' : Scratch) (G : Got Item) → (item lenient b).dec here ≡ G → Err j ≡ move_answer (8 * length s) G
         → Reads (move_answer (8 * length s)) (each_dec (item lenient) whole (drop from (bits_of s))) (Err j) (BinsPut start whole o o'')
     cut j o'' (got y rest) d r = let z : ◌≡◌ {A = ℕ} 0 1 = cc in absurd (omega arith)
     cut j o'' (refused j') d r =

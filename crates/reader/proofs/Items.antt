@@ -26,7 +26,8 @@ use Rattle.bits.specs.Format.{move_answer}
 use Rattle.scalars.specs.Work.{six_values, six_exacts}
 use Rattle.scalars.proofs.Six.{all_there}
 use Rattle.channel.specs.Field.{book, scalar, index, codes, lenient, item}
-use Rattle.reader.specs.Work.{Reads, outputs, BinPut}
+use Rattle.reader.specs.Work.{Reads, BinPut}
+use Rattle.reader.specs.declared.scratch.Scratch.{Scratch}
 
 -- the index of a book bin, of n bits
 module _ (h n : ℕ) (s : List ℕ) (p : BitPos) (e : n ≡ vq_bits h) where
@@ -59,15 +60,18 @@ module _ (h n : ℕ) (s : List ℕ) (p : BitPos) (e : n ≡ vq_bits h) where
   index_small i v = rw (v, ← e) (number_take_lt n (drop (bit_at p) (bits_of s)))
 
 -- six codes: what read_six leaves is what their item shows
-pub codes_put : (h g k n : ℕ) (bs : List Bool) (v v' : List Float) (e e' : List ℤ) (i : List ℕ) (r : Result BitPos Refusal) → k < length i
-    → r ≡ move_answer n ((six (mant_bits h) g).dec bs) → v' ≡ six_values h g (6 * k) bs v → e' ≡ six_exacts h g (6 * k) bs e
-    → Reads (move_answer n) ((item lenient (scalar h g)).dec bs) r (BinPut k (scalar h g) (outputs v e i) (outputs v' e' (set i k 0)))
-unfolding six_values six_exacts
-codes_put h g k n bs v v' e e' i r l a av ae = go ((six (mant_bits h) g).dec bs) refl a
-  where
-    go : (G : Got (List Code)) → (six (mant_bits h) g).dec bs ≡ G → r ≡ move_answer n G
-        → Reads (move_answer n) (and_then G (λ cs rest. got (codes cs) rest)) r (BinPut k (scalar h g) (outputs v e i) (outputs v' e' (set i k 0)))
-    go (got cs rest) d q =
-        let t = all_there (coded (mant_bits h) g) 6 bs rest cs d in
-        record { is = q; left = (av ∙ ap (λ (l : List Code). splice v (6 * k) (map (value_of h g) l)) t, ae ∙ ap (λ (l : List Code). splice e (6 * k) (map (exact_of h g) l)) t, sym (splice_one i k 0 l)) }
-    go (refused j) d q = record { is = q; left = tt }
+module _ (h g k n : ℕ) (bs : List Bool) (s : Scratch) (v : List Float) (e : List ℤ) (r : Result BitPos Refusal) where
+  abbrev after : Scratch
+  after = record { values = v; exact = e; indices = set s.indices k 0 }
+
+  pub codes_put : k < length s.indices → r ≡ move_answer n ((six (mant_bits h) g).dec bs) → v ≡ six_values h g (6 * k) bs s.values → e ≡ six_exacts h g (6 * k) bs s.exact
+      → Reads (move_answer n) ((item lenient (scalar h g)).dec bs) r (BinPut k (scalar h g) s after)
+  unfolding six_values six_exacts
+  codes_put l a av ae = go ((six (mant_bits h) g).dec bs) refl a
+    where
+      go : (G : Got (List Code)) → (six (mant_bits h) g).dec bs ≡ G → r ≡ move_answer n G
+          → Reads (move_answer n) (and_then G (λ cs rest. got (codes cs) rest)) r (BinPut k (scalar h g) s after)
+      go (got cs rest) d q =
+          let t = all_there (coded (mant_bits h) g) 6 bs rest cs d in
+          record { is = q; left = (av ∙ ap (λ (l : List Code). splice s.values (6 * k) (map (value_of h g) l)) t, ae ∙ ap (λ (l : List Code). splice s.exact (6 * k) (map (exact_of h g) l)) t, sym (splice_one s.indices k 0 l)) }
+      go (refused j) d q = record { is = q; left = tt }

@@ -18,7 +18,8 @@ use Rattle.channel.proofs.Laws.{lenient_laws, field_lawful}
 use Rattle.channel.proofs.Most.{field_most}
 use Rattle.reader.specs.declared.ChannelRead.{ChannelRead}
 use Rattle.reader.specs.Reading.{Call, found, read_answer, answer_to}
-use Rattle.reader.specs.Work.{WhenGot, GainsPut, field_answer, Near, answer_with}
+use Rattle.reader.specs.declared.FieldEnd.{FieldEnd}
+use Rattle.reader.specs.Work.{WhenGot, Reads, GainsPut, field_answer, Near, answer_with}
 use Rattle.reader.proofs.Causes.{found_got}
 
 module _ (row : List ℕ) (start end : ℕ) (c : Call) (p : BitPos) (at : bit_at p ≡ c.at) where
@@ -61,3 +62,7 @@ module _ (row : List ℕ) (start end : ℕ) (c : Call) (p : BitPos) (at : bit_at
           ap (λ (l : List ℕ). answer_with l p (field_answer n (got d rest))) w
           ∙ ap {B = Result ChannelRead Refusal} (λ (k : ℕ). Ok (record { mode = d.mode; gains = d.gains ++ drop (length d.gains) no_gains; count = length d.gains; bits = k })) b
       go (refused k) g w = refl
+
+  -- so the answer follows from what was read
+  pub answer_follows : (r : Result FieldEnd Refusal) (gains : List ℕ) → Reads (field_answer n) seen r (λ d. GainsPut no_gains gains d.gains) → answer_with gains p r ≡ answer_to row start end c
+  answer_follows r gains e = ap (answer_with gains p) e.is ∙ answer_is gains e.left

@@ -16,7 +16,7 @@ use Rattle.bits.proofs.Reading.{pos_is, number_as, next_inside}
 use Rattle.std.specs.Prelude.{Result, Ok, Err}
 use Rattle.answers.specs.declared.Refusal.{Refusal}
 use Rattle.bits.specs.Format.{move_answer}
-use Rattle.channel.specs.Row.{active_count, RowOk}
+use Rattle.channel.specs.Row.{active_count}
 use Rattle.channel.specs.Field.{gain_words, Item, lenient, item, bins_of, Channel, from_parts, behind_mode, field}
 use Rattle.channel.specs.Shown.{bins_in, values_shown, exacts_shown, indices_shown}
 use Rattle.channel.proofs.Rows.{none_active}
@@ -24,8 +24,10 @@ use Rattle.channel.proofs.Laws.{lenient_laws, gain_words_lawful, item_lawful, fi
 use Rattle.channel.proofs.Parts.{gain_words_count, parts}
 use Rattle.channel.proofs.Shown.{values_long, exacts_long, indices_long}
 use Rattle.reader.specs.declared.FieldEnd.{FieldEnd}
-use Rattle.reader.specs.Work.{WhenGot, Reads, Outputs, Long, BinsPut, FoundPut, GainsPut, behind_answer, field_answer}
+use Rattle.reader.specs.declared.scratch.Scratch.{Scratch}
+use Rattle.reader.specs.Work.{WhenGot, Reads, Outputs, BinsPut, FoundPut, GainsPut, behind_answer, field_answer}
 use Rattle.bits.proofs.Reading.{next_is}
+use Rattle.reader.proofs.Bins.{Sized}
 
 -- ---- one format after another
 module _ {A B : Type 0} (F : Format A) (G : A → Format B) (bs : List Bool) where
@@ -77,11 +79,11 @@ module _ (mode : ℕ) (row : List ℕ) (start end : ℕ) (s : List ℕ) (p : Bit
   behind = (behind_mode lenient row start end mode).dec here
 
   -- what is left where all is read: the gains and the bins
-  abbrev pub Answered : Result FieldEnd Refusal → List ℕ → List ℕ → Outputs → Outputs → Type 0
+  abbrev pub Answered : Result FieldEnd Refusal → List ℕ → List ℕ → Scratch → Scratch → Type 0
   Answered r out out' o o' =
       Reads (behind_answer mode (8 * length s)) behind r (λ c. GainsPut out out' c.0 × BinsPut start (bins_of mode c.0 row start end) o o' c.1)
 
-  stopped : (k : Refusal) (out out' : List ℕ) (o o' : Outputs) → behind ≡ refused k → Answered (Err k) out out' o o'
+  stopped : (k : Refusal) (out out' : List ℕ) (o o' : Scratch) → behind ≡ refused k → Answered (Err k) out out' o o'
   stopped k out out' o o' e = rw e (record { is = refl; left = tt })
 
   -- the gains that were read, n of them, and the output they went to
@@ -94,7 +96,7 @@ module _ (mode : ℕ) (row : List ℕ) (start end : ℕ) (s : List ℕ) (p : Bit
     pub front : take n out' ≡ gs
 
   module _ (n : ℕ) (active : n ≡ active_count mode row start end) where
-    pub gains_stop : (r : Result BitPos Refusal) (k : Refusal) (out out' : List ℕ) (o o' : Outputs) → r ≡ move_answer (8 * length s) ((gain_words mode n).dec here) → r ≡ Err k
+    pub gains_stop : (r : Result BitPos Refusal) (k : Refusal) (out out' : List ℕ) (o o' : Scratch) → r ≡ move_answer (8 * length s) ((gain_words mode n).dec here) → r ≡ Err k
         → Answered (Err k) out out' o o'
     gains_stop r k out out' o o' e d = stopped k out out' o o' (both_stop words bins here k (read_stop words s (bit_at p) r k (e ∙ rw active) d))
 
@@ -117,7 +119,7 @@ module _ (mode : ℕ) (row : List ℕ) (start end : ℕ) (s : List ℕ) (p : Bit
 
 -- the bins behind them
 module _ {mode : ℕ} {row : List ℕ} {start end : ℕ} {s : List ℕ} {p : BitPos} {n : ℕ} {next : BitPos} {out out' : List ℕ}
-    (g : GainsRead mode row start end s p n next out out') (r : Result BitPos Refusal) (o o' : Outputs)
+    (g : GainsRead mode row start end s p n next out out') (r : Result BitPos Refusal) (o o' : Scratch)
     (e : Reads (move_answer (8 * length s)) ((bins mode row start end s p (take n out')).dec (drop (bit_at next) (bits_of s))) r
     (BinsPut start (bins_of mode (take n out') row start end) o o')) where
   abbrev bins_of_lem : List ℕ → Format (List Item)
@@ -147,13 +149,13 @@ module _ (row : List ℕ) (start end : ℕ) (s : List ℕ) (p : BitPos) where
   from = drop (bit_at p) (bits_of s)
 
   -- what is left of a whole field
-  abbrev pub Worked : List ℕ → List ℕ → Outputs → Outputs → Channel → Type 0
+  abbrev pub Worked : List ℕ → List ℕ → Scratch → Scratch → Channel → Type 0
   Worked out out' o o' c = GainsPut out out' c.gains × BinsPut start (bins_in row start end c) o o' c.items
 
-  abbrev pub FieldRead : Result FieldEnd Refusal → List ℕ → List ℕ → Outputs → Outputs → Type 0
+  abbrev pub FieldRead : Result FieldEnd Refusal → List ℕ → List ℕ → Scratch → Scratch → Type 0
   FieldRead r out out' o o' = Reads (field_answer (8 * length s)) ((field row start end).dec from) r (Worked out out' o o')
 
-  pub mode_stop : (r : Result (ℕ × BitPos) Refusal) (k : Refusal) (out out' : List ℕ) (o o' : Outputs) → r ≡ read_u32 s (bit_at p) 2 → r ≡ Err k → FieldRead (Err k) out out' o o'
+  pub mode_stop : (r : Result (ℕ × BitPos) Refusal) (k : Refusal) (out out' : List ℕ) (o o' : Scratch) → r ≡ read_u32 s (bit_at p) 2 → r ≡ Err k → FieldRead (Err k) out out' o o'
   mode_stop r k out out' o o' e d =
       let z : (field row start end).dec from ≡ refused k = rw (number_as s (bit_at p) 2 (omega arith) (inl (omega arith)) r (Err k) e d) in
       rw z (record { is = refl; left = tt })
@@ -185,7 +187,7 @@ module _ {row : List ℕ} {start end : ℕ} {s : List ℕ} {p : BitPos} {mode : 
       go (got c rest) = refl
       go (refused k) = refl
 
-  pub field_read : (r : Result FieldEnd Refusal) (out out' : List ℕ) (o o' : Outputs) → Answered mode row start end s next r out out' o o' → FieldRead row start end s p r out out' o o'
+  pub field_read : (r : Result FieldEnd Refusal) (out out' : List ℕ) (o o' : Scratch) → Answered mode row start end s next r out out' o o' → FieldRead row start end s p r out out' o o'
   field_read r out out' o o' h = rw whole (go rest_of h)
     where
       go : (G : Got (List ℕ × List Item)) → Reads (behind_answer mode (8 * length s)) G r (λ c. GainsPut out out' c.0 × BinsPut start (bins_of mode c.0 row start end) o o' c.1)
@@ -202,7 +204,7 @@ module _ (row : List ℕ) (start end : ℕ) (s : List ℕ) (p : BitPos) where
   abbrev field_found : Got Channel
   field_found = (field row start end).dec (drop (bit_at p) (bits_of s))
 
-  module _ (r : Result FieldEnd Refusal) (out out' : List ℕ) (w w' o o' : Outputs) (e : FieldRead row start end s p r out out' w w') where
+  module _ (r : Result FieldEnd Refusal) (out out' : List ℕ) (w w' : Scratch) (o o' : Outputs) (e : FieldRead row start end s p r out out' w w') where
     -- where nothing is read the outputs are kept,
     pub not_handed : (k : Refusal) → r ≡ Err k → o' ≡ o
         → Reads (field_answer (8 * length s)) field_found (Err k) (λ c. GainsPut out out' c.gains) × FoundPut row start end o o' field_found
@@ -214,18 +216,17 @@ module _ (row : List ℕ) (start end : ℕ) (s : List ℕ) (p : BitPos) where
         go (refused j) t = rw same (record { is = t; left = tt }, (refl, refl, refl))
 
     -- and else get what was read to the scratch buffers
-    pub handed_out : (m n : ℕ) (q : BitPos) → RowOk row start end → Long end w → r ≡ Ok (record { mode = m; count = n; pos = q })
+    pub handed_out : (m n : ℕ) (q : BitPos) → start ≤ end → end ≤ 256 → Sized w → r ≡ Ok (record { mode = m; count = n; pos = q })
         → o'.values ≡ splice o.values (6 * start) (take (6 * end - 6 * start) (drop (6 * start) w'.values))
         → o'.exact ≡ splice o.exact (6 * start) (take (6 * end - 6 * start) (drop (6 * start) w'.exact))
         → o'.indices ≡ splice o.indices start (take (end - start) (drop start w'.indices))
         → Reads (field_answer (8 * length s)) field_found (Ok (record { mode = m; count = n; pos = q })) (λ c. GainsPut out out' c.gains) × FoundPut row start end o o' field_found
-    handed_out m n q ok long d ev ex ei = go field_found refl (sym d ∙ e.is) e.left
+    handed_out m n q ordered few sized d ev ex ei = go field_found refl (sym d ∙ e.is) e.left
       where
         go : (G : Got Channel) → field_found ≡ G → Ok (record { mode = m; count = n; pos = q }) ≡ field_answer (8 * length s) G → WhenGot G (Worked row start end s p out out' w w')
             → Reads (field_answer (8 * length s)) G (Ok (record { mode = m; count = n; pos = q })) (λ c. GainsPut out out' c.gains) × FoundPut row start end o o' G
         go (got c rest) g t k =
             let pt = parts lenient row start end c ((field_lawful lenient lenient_laws row start end).sole (drop (bit_at p) (bits_of s)) rest c g).1 in
-            let b = ok.ordered in
             let lv : length (values_shown row start end c) ≡ 6 * end - 6 * start = values_long lenient row start end c pt ∙ omega arith in
             let lx : length (exacts_shown row start end c) ≡ 6 * end - 6 * start = exacts_long lenient row start end c pt ∙ omega arith in
             let li : length (indices_shown row start end c) ≡ end - start = indices_long lenient row start end c pt in (

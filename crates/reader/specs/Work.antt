@@ -7,6 +7,7 @@ use Rattle.channel.specs.Field.{first, second, third, one_gain, two_gains, Bin, 
 use Rattle.channel.specs.Shown.{values_of, exacts_of, index_of, values_in, exacts_in, indices_in, values_shown, exacts_shown, indices_shown}
 use Rattle.reader.specs.declared.ChannelRead.{ChannelRead}
 use Rattle.reader.specs.declared.FieldEnd.{FieldEnd}
+use Rattle.reader.specs.declared.scratch.Scratch.{Scratch}
 use Rattle.reader.specs.Reading.{with_shown}
 use Rattle.answers.specs.declared.Refusal.{Refusal}
 
@@ -24,6 +25,18 @@ pub record Reads {A R : Type 0} (answer : Got A → R) (G : Got A) (r : R) (P : 
   pub is : r ≡ answer G
   pub left : WhenGot G P
 
+-- ---- the scratch buffers
+-- s with an item at the places of the bin k, and with items of bins from there on
+abbrev pub BinPut : ℕ → Bin → Scratch → Scratch → Item → Type 0
+BinPut k b s s' x =
+    (s'.values ≡ splice s.values (6 * k) (values_of b x)) × (s'.exact ≡ splice s.exact (6 * k) (exacts_of b x))
+    × (s'.indices ≡ splice s.indices k (index_of b x ∷ []))
+
+abbrev pub BinsPut : ℕ → List Bin → Scratch → Scratch → List Item → Type 0
+BinsPut k bs s s' xs =
+    (s'.values ≡ splice s.values (6 * k) (values_in bs xs)) × (s'.exact ≡ splice s.exact (6 * k) (exacts_in bs xs))
+    × (s'.indices ≡ splice s.indices k (indices_in bs xs))
+
 -- ---- the three outputs
 pub record Outputs : Type 0 where
   pub values : List Float
@@ -37,17 +50,7 @@ outputs values exact indices = record { values = values; exact = exact; indices 
 abbrev pub Long : ℕ → Outputs → Type 0
 Long end o = (6 * end ≤ length o.values) × (6 * end ≤ length o.exact) × (end ≤ length o.indices)
 
--- o with an item at the places of the bin k, with items of bins from there on, and with a channel that was found
-abbrev pub BinPut : ℕ → Bin → Outputs → Outputs → Item → Type 0
-BinPut k b o o' x =
-    (o'.values ≡ splice o.values (6 * k) (values_of b x)) × (o'.exact ≡ splice o.exact (6 * k) (exacts_of b x))
-    × (o'.indices ≡ splice o.indices k (index_of b x ∷ []))
-
-abbrev pub BinsPut : ℕ → List Bin → Outputs → Outputs → List Item → Type 0
-BinsPut k bs o o' xs =
-    (o'.values ≡ splice o.values (6 * k) (values_in bs xs)) × (o'.exact ≡ splice o.exact (6 * k) (exacts_in bs xs))
-    × (o'.indices ≡ splice o.indices k (indices_in bs xs))
-
+-- o with a channel that was found
 abbrev pub FoundPut : List ℕ → ℕ → ℕ → Outputs → Outputs → Got Channel → Type 0
 FoundPut row start end o o' G =
     (o'.values ≡ with_shown (values_shown row start end) (6 * start) o.values G)

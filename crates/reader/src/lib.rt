@@ -3,17 +3,18 @@
 
 ghost use Rattle.std.specs.Prelude.{◌≡◌, ◌||◌, ◌+◌, ◌-◌, ◌*◌, ◌<◌, ◌≤◌, ltb, length};
 ghost use Rattle.bits.specs.Bits.{bit_at, Inside};
-ghost use Rattle.channel.specs.Row.{RowOk};
 ghost use Rattle.channel.specs.Field.{field};
-ghost use Rattle.reader.specs.Reading.{call, found, answer_to, values_after, exact_after, indices_after};
+ghost use Rattle.reader.specs.Reading.{call, answer_to, values_after, exact_after, indices_after};
 ghost use Rattle.reader.specs.Work.{bits_from, Reads, outputs, Long, FoundPut, GainsPut, field_answer};
 
 use answers::Refusal;
 use bits::BitPos;
+use channel::bins::Bins;
+use scratch::Scratch;
 
 mod gain_words;
-mod hand_over;
 mod one_bin;
+mod scratch;
 mod whole_field;
 
 // What a field shows beside the outputs. The gains are Gk in bin order, count of them, then zeros; bits is the length of
@@ -47,73 +48,30 @@ pub fn too_short(end: usize, values: usize, exact: usize, indices: usize) -> boo
     indices < end
 }
 
-// Reads into the scratch buffers v, e and x and copies to the outputs once the whole field has been read, so that a
-// refusal leaves them as they were.
+// Reads into the scratch buffers and copies to the outputs once the whole field has been read, so that a refusal leaves
+// them as they were.
 fn read_known(
     src: &[u8],
     pos: BitPos,
-    hebap: &[u8],
-    start: usize,
-    end: usize,
+    bins: Bins,
+    gains: &mut [u8; 256],
+    scratch: &mut Scratch,
     values: &mut [f32],
     exact: &mut [i32],
     indices: &mut [u16],
-    gains: &mut [u8],
-    v: &mut [f32],
-    e: &mut [i32],
-    x: &mut [u16],
 ) -> Result<FieldEnd, Refusal>
-    requires row_ok { RowOk hebap.now start end }
     requires inside { Inside (8 * length src.now) pos }
-    requires long { Long end (outputs values.old exact.old indices.old) }
-    requires gains_len { length gains.old ≡ 256 }
-    requires v_len { (length v.old ≡ 1536) × (length e.old ≡ 1536) × (length x.old ≡ 256) }
-    ensures reads { Reads (field_answer (8 * length src.now)) ((field hebap.now start end).dec (bits_from src.now pos)) result
+    requires long { Long bins.end (outputs values.old exact.old indices.old) }
+    ensures reads { Reads (field_answer (8 * length src.now))
+        ((field bins.entry.row.now bins.entry.start bins.entry.end).dec (bits_from src.now pos)) result
         (λ c. GainsPut gains.old gains.new c.gains) }
-    ensures found_put { FoundPut hebap.now start end (outputs values.old exact.old indices.old)
+    ensures found_put { FoundPut bins.entry.row.now bins.entry.start bins.entry.end (outputs values.old exact.old indices.old)
         (outputs values.new exact.new indices.new)
-        ((field hebap.now start end).dec (bits_from src.now pos)) }
+        ((field bins.entry.row.now bins.entry.start bins.entry.end).dec (bits_from src.now pos)) }
 {
-    let field = whole_field::read_field(
-        src, pos, hebap, start, end, gains, &mut *v, &mut *e, &mut *x,
-    )?;
-    hand_over::hand_out(&*v, &*e, &*x, start, end, values, exact, indices);
+    let field = whole_field::read_field(src, pos, bins, gains, &mut *scratch)?;
+    scratch.hand_out(bins, values, exact, indices);
     Ok(field)
-}
-
-// The same for any arguments: causes 1 to 4 first, then 8 for a position past the end.
-fn read_with(
-    src: &[u8],
-    pos: BitPos,
-    hebap: &[u8],
-    start: usize,
-    end: usize,
-    values: &mut [f32],
-    exact: &mut [i32],
-    indices: &mut [u16],
-    gains: &mut [u8],
-    v: &mut [f32],
-    e: &mut [i32],
-    x: &mut [u16],
-) -> Result<FieldEnd, Refusal>
-    requires gains_len { length gains.old ≡ 256 }
-    requires v_len { (length v.old ≡ 1536) × (length e.old ≡ 1536) × (length x.old ≡ 256) }
-    ensures reads { Reads (field_answer (8 * length src.now)) (found hebap.now start end
-        (call src.now (bit_at pos) values.old exact.old indices.old)) result
-        (λ c. GainsPut gains.old gains.new c.gains) }
-    ensures found_put { FoundPut hebap.now start end (outputs values.old exact.old indices.old)
-        (outputs values.new exact.new indices.new)
-        (found hebap.now start end (call src.now (bit_at pos) values.old exact.old indices.old)) }
-{
-    let short = too_short(end, values.len(), exact.len(), indices.len());
-    channel::check_row(hebap, start, end, short)?;
-    if !pos.has_bits(src.len(), 1, 0) {
-        return Err(Refusal::InputEnds);
-    }
-    let pos = pos.advance(1, 0);
-    read_known(
-        src, pos, hebap, start, end, values, exact, indices, gains, v, e, x,
-    )
 }
 
 // How many bits lie between two positions.
@@ -147,12 +105,32 @@ pub fn read_aht_channel(
     ensures indices_after { indices.new ≡ indices_after hebap.now start end
         (call src.now (bit_at pos) values.old exact.old indices.old) }
 {
+    // Zeroed before the row is looked at: behind it, a call takes some 4% longer.
+    let mut scratch = Scratch {
+        values: [0.0; 1536],
+        exact: [0; 1536],
+        indices: [0; 256],
+    };
+    let short = too_short(end, values.len(), exact.len(), indices.len());
+    channel::check_row(hebap, start, end, short)?;
+    if !pos.has_bits(src.len(), 1, 0) {
+        return Err(Refusal::InputEnds);
+    }
+    let bins = Bins {
+        row: hebap,
+        start,
+        end,
+    };
     let mut gains = channel::no_gains();
-    let mut v = [0.0f32; 1536];
-    let mut e = [0i32; 1536];
-    let mut x = [0u16; 256];
-    let field = read_with(
-        src, pos, hebap, start, end, values, exact, indices, &mut gains, &mut v, &mut e, &mut x,
+    let field = read_known(
+        src,
+        pos.advance(1, 0),
+        bins,
+        &mut gains,
+        &mut scratch,
+        values,
+        exact,
+        indices,
     )?;
     Ok(ChannelRead {
         mode: field.mode,

@@ -16,9 +16,8 @@ pub read_codes-requires-in-Adaptive : goal.read_codes-requires-in-Adaptive
 read_codes-requires-in-Adaptive c = record { le_hebap = ((coded_bin c.args.mode c.args.hebap c.args.gk Coding.Adaptive c.requires.hebap_bound (sym c.coding_of.ensures ∙ c.in-Adaptive.is)).0, c.requires.hebap_bound); inside = c.requires.inside; bin_bound = c.requires.bin_bound }
 
 pub returns-in-Nothing : goal.returns-in-Nothing
-returns-in-Nothing c = let e = c.put_zeros.ensures in
-    rw (coded_bin c.args.mode c.args.hebap c.args.gk Coding.Nothing c.requires.hebap_bound (sym c.coding_of.ensures ∙ c.in-Nothing.is)).1
-    (record { is = ap Ok (sym (pos_is c.args.src.now c.args.pos c.requires.inside)); left = (e.values_after, e.exact_after, e.indices_after) })
+returns-in-Nothing c = rw (coded_bin c.args.mode c.args.hebap c.args.gk Coding.Nothing c.requires.hebap_bound (sym c.coding_of.ensures ∙ c.in-Nothing.is)).1
+    (record { is = ap Ok (sym (pos_is c.args.src.now c.args.pos c.requires.inside)); left = c.put_zeros.ensures })
 
 pub returns-in-Book : goal.returns-in-Book
 returns-in-Book c = rw (coded_bin c.args.mode c.args.hebap c.args.gk Coding.Book c.requires.hebap_bound (sym c.coding_of.ensures ∙ c.in-Book.is)).1 c.read_index.ensures

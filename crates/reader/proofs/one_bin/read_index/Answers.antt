@@ -44,10 +44,9 @@ advance_bits-requires c = let n = wide (goal.at.advance_bits-requires c).After-v
 
 pub returns-then-byte-src : goal.returns-then-byte-src
 returns-then-byte-src c = let a = c.args in
-    let e = c.put_index.ensures in
     let q = c.advance_bits in
     let r = index_there a.hebap c.vq_bits-n.result a.src.now a.pos c.vq_bits-n.ensures (ahead (goal.at.returns-then-byte-src c).Then-byte-src) c.peek_word-i.result c.peek_word-i.ensures q.result q.ensures in
-    rw r.0 (record { is = ap Ok (sym (pos_is a.src.now q.result r.1)); left = (e.values_after, e.exact_after, e.indices_after) })
+    rw r.0 (record { is = ap Ok (sym (pos_is a.src.now q.result r.1)); left = c.put_index.ensures })
 
 -- ---- near the end
 pub returns-in_err-i : goal.returns-in_err-i
@@ -69,6 +68,5 @@ put_index-requires-2 c = record { le_hebap = (c.requires.le_hebap.0, c.requires.
 
 pub returns : goal.returns
 returns c =
-    let e = c.put_index-2.ensures in
     let r = there (goal.at.returns c).In_ok-i in
-    rw r.0 (record { is = ap Ok (sym (pos_is c.args.src.now c.in_ok-i.next r.1)); left = (e.values_after, e.exact_after, e.indices_after) })
+    rw r.0 (record { is = ap Ok (sym (pos_is c.args.src.now c.in_ok-i.next r.1)); left = c.put_index-2.ensures })

@@ -1,39 +1,20 @@
 -- `reader::whole_field::read_behind` meets its contract. Assumes nothing.
-use Rattle.channel.proofs.Rows.{count_most}
-use Prim.Native.Nat.{◌≤◌}
-use mathlib.Core.Path.{sym}
-use native.Mathlib.Omega.{arith}
 use Rattle.answers.proofs.Numbers.{passed_on}
-use lib.ListN.{length}
-use lib.Seq.{length-take-le}
 use Rattle.reader.proofs.Whole.{GainsRead, gains_stop, gains_read, bins_stop, bins_read_lem}
 use Rattle.reader.proofs.whole_field.read_behind.Goals as goal
 use Rattle.reader.proofs.whole_field.read_behind.Goals.{After-count_active-n, In_ok-next}
 
--- there are at least as many gains as active bins
-few : (c : After-count_active-n) → c.count_active-n.result ≤ length c.args.gains.now
-few c = let a = c.args in omega (arith, count_most a.mode a.row.now a.start a.end, c.requires.row_ok.few, c.requires.gains_len, c.count_active-n.ensures)
-
 -- what the read gains say of the output that holds them
 gains : (c : In_ok-next) → let a = c.args in
-    GainsRead a.mode a.row.now a.start a.end a.src.now a.pos c.count_active-n.result c.in_ok-next.next a.gains.now c.read_gains.new.gains
+    GainsRead a.mode a.bins.row.now a.bins.start a.bins.end a.src.now a.pos c.count_active-n.result c.in_ok-next.next a.gains.now c.read_gains.new.gains
 gains c = let a = c.args in
-    gains_read a.mode a.row.now a.start a.end a.src.now a.pos c.count_active-n.result c.count_active-n.ensures c.requires.mode_bound c.requires.inside
+    gains_read a.mode a.bins.row.now a.bins.start a.bins.end a.src.now a.pos c.count_active-n.result c.count_active-n.ensures c.requires.mode_bound c.requires.inside
     c.read_gains.result _ a.gains.now c.read_gains.new.gains c.read_gains.ensures c.in_ok-next.was
-
-pub read_gains-requires-clause-n_in_bounds : goal.read_gains-requires-clause-n_in_bounds
-read_gains-requires-clause-n_in_bounds c = few (goal.at.read_gains-requires-clause-n_in_bounds c).After-count_active-n
-
-pub slice_bounds-read_bins-end : goal.slice_bounds-read_bins-end
-slice_bounds-read_bins-end c = omega (arith, few (goal.at.slice_bounds-read_bins-end c).After-count_active-n)
-
-pub slice_bounds-read_bins-end-2 : goal.slice_bounds-read_bins-end-2
-slice_bounds-read_bins-end-2 c = sym (length-take-le _ _ (omega (arith, few (goal.at.slice_bounds-read_bins-end-2 c).After-count_active-n)))
 
 pub returns-in_err-next : goal.returns-in_err-next
 returns-in_err-next c = let a = c.args in
     rw (passed_on c.from_residual.ensures)
-    (gains_stop a.mode a.row.now a.start a.end a.src.now a.pos c.count_active-n.result c.count_active-n.ensures c.read_gains.result _ _ _ _ _ c.read_gains.ensures.is c.in_err-next.was)
+    (gains_stop a.mode a.bins.row.now a.bins.start a.bins.end a.src.now a.pos c.count_active-n.result c.count_active-n.ensures c.read_gains.result _ _ _ _ _ c.read_gains.ensures.is c.in_err-next.was)
 
 pub returns-in_err-last : goal.returns-in_err-last
 returns-in_err-last c = rw (passed_on c.from_residual-in_err-last.ensures) (bins_stop (gains (goal.at.returns-in_err-last c).In_ok-next) _ _ _ c.read_bins.ensures _ c.in_err-last.was)

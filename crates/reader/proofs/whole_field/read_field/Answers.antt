@@ -6,8 +6,8 @@ use Rattle.reader.proofs.whole_field.read_field.Goals as goal
 use Rattle.reader.proofs.whole_field.read_field.Goals.{In_ok-mode}
 
 -- what the read mode says of the field
-mode : (c : In_ok-mode) → let a = c.args in ModeRead a.row.now a.start a.end a.src.now a.pos c.in_ok-mode.mode c.in_ok-mode.next
-mode c = let a = c.args in mode_read a.row.now a.start a.end a.src.now a.pos _ _ _ c.read_u32.ensures c.in_ok-mode.was
+mode : (c : In_ok-mode) → let a = c.args in ModeRead a.bins.row.now a.bins.start a.bins.end a.src.now a.pos c.in_ok-mode.mode c.in_ok-mode.next
+mode c = let a = c.args in mode_read a.bins.row.now a.bins.start a.bins.end a.src.now a.pos _ _ _ c.read_u32.ensures c.in_ok-mode.was
 
 pub overflow_cast-mode : goal.overflow_cast-mode
 overflow_cast-mode c = record { fits = omega (arith, (mode (goal.at.overflow_cast-mode c).In_ok-mode).few) }
@@ -21,7 +21,7 @@ read_behind-requires-clause-inside c = (mode (goal.at.read_behind-requires-claus
 pub returns-in_err-mode : goal.returns-in_err-mode
 returns-in_err-mode c =
     let a = c.args in
-    rw (passed_on c.from_residual.ensures) (mode_stop a.row.now a.start a.end a.src.now a.pos _ _ _ _ _ _ c.read_u32.ensures c.in_err-mode.was)
+    rw (passed_on c.from_residual.ensures) (mode_stop a.bins.row.now a.bins.start a.bins.end a.src.now a.pos _ _ _ _ _ _ c.read_u32.ensures c.in_err-mode.was)
 
 pub returns : goal.returns
 returns c = field_read (mode (goal.at.returns c).In_ok-mode) _ _ _ _ _ c.read_behind.ensures

@@ -1,0 +1,62 @@
+// The buffers that a field is read into.
+ghost use Rattle.std.specs.Prelude.{◌≡◌, ◌-◌, ◌*◌, ◌^◌, ◌<◌, ◌≤◌, length, take, drop};
+ghost use Rattle.bits.specs.Bits.{splice};
+ghost use Rattle.tables.specs.Tables.{vq_bits};
+ghost use Rattle.channel.specs.Field.{none, book, nothing, index};
+ghost use Rattle.reader.specs.Work.{BinPut};
+
+use channel::bins::Bins;
+
+// Six f32, six exact values and an index for each bin of a row: as many as the longest row has.
+#[derive(Drop)]
+pub struct Scratch {
+    pub values: [f32; 1536],
+    pub exact: [i32; 1536],
+    pub indices: [u16; 256],
+}
+
+impl Scratch {
+    // The vector at an index of the book goes to the bin's places, with the index.
+    pub fn put_index(&mut self, hebap: u8, i: u32, bin: usize)
+        requires le_hebap { (1 ≤ hebap) × (hebap ≤ 7) × (i < 2 ^ vq_bits hebap) }
+        requires bin_bound { bin < 256 }
+        ensures { BinPut bin (book hebap) self.old self.new (index i) }
+    {
+        books::put_vector(
+            hebap,
+            i as usize,
+            6 * bin,
+            &mut self.values,
+            &mut self.exact,
+        );
+        self.indices[bin] = i as u16;
+    }
+
+    // Zeros for a bin that has no bits in the field.
+    pub fn put_zeros(&mut self, bin: usize)
+        requires { bin < 256 }
+        ensures { BinPut bin none self.old self.new nothing }
+    {
+        let at = 6 * bin;
+        self.values[at..at + 6].copy_from_slice(&[0.0; 6]);
+        self.exact[at..at + 6].copy_from_slice(&[0; 6]);
+        self.indices[bin] = 0;
+    }
+
+    // Copies what stands for the bins to the same places of the outputs.
+    pub fn hand_out(&self, bins: Bins, values: &mut [f32], exact: &mut [i32], indices: &mut [u16])
+        requires { (6 * bins.end ≤ length values.old) × (6 * bins.end ≤ length exact.old) × (bins.end ≤ length indices.old) }
+        ensures values_after { values.new ≡ splice values.old (6 * bins.entry.start)
+            (take (6 * bins.entry.end - 6 * bins.entry.start) (drop (6 * bins.entry.start) self.now.values)) }
+        ensures exact_after { exact.new ≡ splice exact.old (6 * bins.entry.start)
+            (take (6 * bins.entry.end - 6 * bins.entry.start) (drop (6 * bins.entry.start) self.now.exact)) }
+        ensures indices_after { indices.new ≡ splice indices.old bins.entry.start
+            (take (bins.entry.end - bins.entry.start) (drop bins.entry.start self.now.indices)) }
+    {
+        let a = 6 * bins.start;
+        let b = 6 * bins.end;
+        values[a..b].copy_from_slice(&self.values[a..b]);
+        exact[a..b].copy_from_slice(&self.exact[a..b]);
+        indices[bins.start..bins.end].copy_from_slice(&self.indices[bins.start..bins.end]);
+    }
+}
