@@ -52,6 +52,7 @@ fn limits_for(hebap: u8) -> Limits
     }
 }
 
+// Of std's abs a second comparison, for -0, costs the loop below a quarter of its time.
 fn size(x: f32) -> f32
     ensures { result ≡ size_of x }
 {

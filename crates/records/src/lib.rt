@@ -118,7 +118,8 @@ pub struct Count {
     pub wrong: u64,
 }
 
-// The byte at a place, and the numbers of 16, 32 and 64 bits there, the least significant byte first.
+// The byte at a place, and the numbers of 16, 32 and 64 bits there, the least significant byte first. Each is one call of
+// std, which has no trait over the three types.
 pub fn byte(r: &[u8], at: usize) -> u8
     ensures { result ≡ at8 r.now at }
 {
