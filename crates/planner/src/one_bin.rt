@@ -52,7 +52,7 @@ fn limits_for(hebap: u8) -> Limits
     }
 }
 
-// Of std's abs a second comparison, for -0, costs the loop below a quarter of its time.
+// The size of x. std's abs has a second comparison, for -0, with which the loop below takes a quarter longer.
 fn size(x: f32) -> f32
     ensures { result ≡ size_of x }
 {
