@@ -197,7 +197,8 @@ fn words_read(gaqmod: u8, nsections: usize, places: usize) -> usize
     nsections.min(places)
 }
 
-// The code goes to the place k, if there is one; answers the next place.
+// The code goes to the place k, if there is one; answers the next place. Codes behind the end are dropped, so the place
+// is handed on: of two functions, a struct for it is no plainer.
 fn put_code(out: &mut [u8], k: usize, code: u8) -> usize
     requires { k ≤ length out.old }
     ensures value { result ≡ min (length out.old) (k + 1) }
