@@ -21,6 +21,9 @@ use Rattle.levels.proofs.Signed.{small_width, large_width}
 use Rattle.writer.specs.Puts.{Room, Puts}
 use Rattle.writer.specs.declared.FieldWriter.{FieldWriter}
 
+pub bit_of_lem : (k : ℕ) → bit_at (pos_of k) ≡ k
+bit_of_lem k = omega arith
+
 -- ---- the bits of a code, by its kind
 module _ (m g : ℕ) where
   pub bits_one : (l : ℕ) → g ≡ 1 → (coded m g).enc (Code.Large l) ≡ bits_n m l

@@ -72,10 +72,9 @@ group_first (x ∷ y ∷ z ∷ u ∷ group) rest l h = absurd (omega arith)
 pub groups_next : (all group rest : List ℕ) (w : ℕ) → all ≡ group ++ rest → length group ≡ min 3 (length all) → 0 < length all → w ≡ packed group → gains_enc 3 all ≡ bits_n 5 w ++ gains_enc 3 rest
 groups_next all group rest w e l h ew = rw (e, ew) (group_first group rest (rw e at l) (rw e at h))
 
-pub words_end_lem : (all : List ℕ) → length all ≡ 0 → gains_enc 3 all ≡ []
+pub words_end_lem : (gs : List ℕ) (i : ℕ) → length gs ≤ i → gains_enc 3 (drop i gs) ≡ []
 unfolding gain_words group_words
-words_end_lem [] e = refl
-words_end_lem (g ∷ gs) e = absurd (omega arith)
+words_end_lem gs i h = ap (gains_enc 3) (drop_of_length-le gs h)
 
 -- ---- the codes of components
 abbrev pub codes_for : ℕ → ℕ → List Float → List Bool

@@ -4,6 +4,7 @@ use Rattle.std.specs.Slice.Iter.{chunks_rest}
 use Rattle.bits.specs.Bits.{bits_n}
 use Rattle.writer.specs.Work.{gains_enc}
 use Rattle.writer.proofs.Turns.{Next, left_all, left_room, left_next, left_none}
+use native.Mathlib.Omega.{arith}
 use Rattle.writer.proofs.Words.{groups_next, words_end_lem}
 use Rattle.writer.proofs.FieldWriter.write_group_words.Goals as goal
 use Rattle.writer.proofs.FieldWriter.write_group_words.Goals.{After-word_of}
@@ -27,4 +28,4 @@ pub loop-group-preserved : goal.loop-group-preserved
 loop-group-preserved c = (c.in-Some.ensures.steps.0 ∙ c.loop-group.invariant.0, left_next c.loop-group.invariant.1 (turn (goal.at.loop-group-preserved c).After-word_of) c.requires _ c.put.ensures)
 
 pub returns : goal.returns
-returns c = left_none c.loop-group.invariant.1 (words_end_lem _ c.in-None.ensures.steps.1.0)
+returns c = left_none c.loop-group.invariant.1 (words_end_lem _ 0 (let e = c.in-None.ensures.steps.1.0 in omega arith))
