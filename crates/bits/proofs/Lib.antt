@@ -4,5 +4,6 @@ pub mod Lawful
 pub mod Faithful
 pub mod Sized
 pub mod Reading
+pub mod Taking
 pub mod Copying
 pub mod Refusals

@@ -1,3 +1,4 @@
 pub mod Bits
 pub mod Format
 pub mod Work
+pub mod Takes

@@ -7,6 +7,8 @@ ghost use Rattle.bits.specs.Work.{byte_with};
 
 use answers::Refusal;
 
+pub mod field_reader;
+
 // The bit 8 * byte + bit.
 #[derive(Clone, Copy)]
 pub struct BitPos {
@@ -52,23 +54,13 @@ fn by_bytes(src: &[u8], q: usize, r: u32, n: u32) -> u32
     v
 }
 
-fn byte_at(src: &[u8], q: usize) -> u32
-    requires { q < length src.now }
-    ensures { (result ≡ get_or src.now q 0) × (result < 256) }
-{
-    u32::from(src[q])
-}
-
 // Four bytes as one big-endian number.
 fn four_bytes(src: &[u8], q: usize) -> u32
     requires { q + 4 ≤ length src.now }
     ensures upper_bound { result < 2 ^ 32 }
     ensures src_value { take 32 (drop (8 * q) (bits_of src.now)) ≡ bits_n 32 result }
 {
-    byte_at(src, q) * 16777216
-        + byte_at(src, q + 1) * 65536
-        + byte_at(src, q + 2) * 256
-        + byte_at(src, q + 3)
+    u32::from_be_bytes([src[q], src[q + 1], src[q + 2], src[q + 3]])
 }
 
 // The number that n bits show, from the bit r of the byte q on, where they stand in four bytes.

@@ -1,4 +1,4 @@
--- The gain of a bin, the scalar reader by its cases, and the turn of a copying loop. Assumes nothing.
+-- The gain of a bin, and the scalar reader by its cases. Assumes nothing.
 use Prim.Native.Nat.{ℕ, ◌*◌, ◌≤◌, ◌<◌}
 use mathlib.Core.Path.{◌≡◌, refl, sym, ap, ◌∙◌}
 use mathlib.Core.Bool.{Bool}

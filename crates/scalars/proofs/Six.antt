@@ -1,35 +1,31 @@
 -- The loop over the six codes of a bin: what is known before each turn, and what a turn does. Assumes nothing.
-use Prim.Native.Nat.{ℕ, zero, suc, ◌+◌, ◌-◌, ◌*◌, ◌≤◌, ◌<◌}
+use Prim.Native.Nat.{ℕ, zero, suc, ◌+◌, ◌-◌, ◌≤◌, ◌<◌}
 use mathlib.Core.Path.{◌≡◌, refl, sym, ap, ◌∙◌}
 use mathlib.Core.List.{List, [], ◌∷◌, ◌++◌, map, append_assoc, append-nil}
 use mathlib.Core.Bool.{Bool}
 use native.Mathlib.Omega.{arith}
 use lib.IntN.{ℤ}
 use lib.Ieee.{Float}
-use lib.ListN.{length, drop, set, replicate, length-append, length-map, drop_of_length-le}
-use Rattle.bits.specs.Bits.{bits_of, bit_at, splice, Inside}
+use lib.ListN.{length, set, replicate, length-append, length-map, drop_of_length-le}
+use Rattle.std.specs.Prelude.{Result, Ok, Err, ⊤}
+use Rattle.answers.specs.declared.Refusal.{Refusal}
+use Rattle.bits.specs.Bits.{splice}
 use Rattle.bits.specs.Format.{Got, got, refused, and_then, Format, each_Ok, each_dec}
+use Rattle.bits.specs.Takes.{ahead, Takes}
 use Rattle.bits.specs.Work.{resume}
-use Rattle.bits.specs.declared.BitPos.{BitPos}
+use Rattle.bits.specs.declared.field_reader.FieldReader.{FieldReader}
 use Rattle.bits.proofs.Laws.{splice_none}
 use Rattle.bits.proofs.Copying.{put_more}
+use Rattle.bits.proofs.Taking.{takes_got, takes_refused, got_to, refused_by}
 use Rattle.bits.proofs.Lawful.{each_lawful, resume_none, resume_next, resume_stop, resume_done}
-use Rattle.bits.proofs.Reading.{pos_is}
 use Rattle.tables.specs.Tables.{mant_bits}
 use Rattle.levels.specs.declared.Code.{Code}
-use Rattle.levels.specs.Codes.{coded, six, Accepted}
+use Rattle.levels.specs.Codes.{coded, six}
 use Rattle.levels.specs.Exact.{exact_of}
 use Rattle.levels.specs.Value.{value_of}
-use Rattle.levels.proofs.CodeLaws.{coded_lawful, coded_accepted}
-use Rattle.std.specs.Prelude.{Result, Ok, Err}
-use Rattle.answers.specs.declared.Refusal.{Refusal}
-use Rattle.bits.specs.Format.{move_answer}
-use Rattle.scalars.specs.Scalars.{scalars_after}
-use Rattle.scalars.specs.Work.{code_and, codes_there, six_values, six_exacts}
-
--- a code that was read is accepted
-pub code_accepted : (h g : ℕ) (bs rest : List Bool) (c : Code) → (coded (mant_bits h) g).dec bs ≡ got c rest → Accepted h g c
-code_accepted h g bs rest c e = coded_accepted h g c ((coded_lawful (mant_bits h) g).sole bs rest c e).1
+use Rattle.levels.proofs.CodeLaws.{coded_lawful}
+use Rattle.scalars.specs.Scalars.{values_read, scalars_after}
+use Rattle.scalars.specs.Work.{code_and, codes_there, six_values, six_exacts, SixLeft}
 
 -- ---- the codes that are there
 module _ (F : Format Code) (n : ℕ) (bs : List Bool) where
@@ -45,96 +41,90 @@ there_none : (F : Format Code) (bs : List Bool) → codes_there F 0 bs ≡ []
 unfolding codes_there
 there_none F bs = refl
 
-module _ (h g at : ℕ) (s : List ℕ) (start : ℕ) (v : List Float) (x : List ℤ) where
-  -- the codes read so far, and where they and the rest stand
-  pub record SoFar (p : BitPos) (j : ℕ) (v' : List Float) (x' : List ℤ) : Type 0 where
+module _ (h g : ℕ) (bs : List Bool) (v : List Float) (x : List ℤ) where
+  -- the codes read so far, and the bits that are left
+  pub record SoFar (left : List Bool) (j : ℕ) (v' : List Float) (x' : List ℤ) : Type 0 where
     pub cs : List Code
     pub count : length cs ≡ j
     pub few : j ≤ 6
-    pub inside : Inside (8 * length s) p
-    pub rest : (six (mant_bits h) g).dec (drop start (bits_of s)) ≡ resume cs (each_dec (λ (k : ℕ). coded (mant_bits h) g) (replicate (6 - j) 0) (drop (bit_at p) (bits_of s)))
-    pub there : codes_there (coded (mant_bits h) g) 6 (drop start (bits_of s)) ≡ cs ++ codes_there (coded (mant_bits h) g) (6 - j) (drop (bit_at p) (bits_of s))
-    pub values : v' ≡ splice v at (map (value_of h g) cs)
-    pub exacts : x' ≡ splice x at (map (exact_of h g) cs)
+    pub rest : (six (mant_bits h) g).dec bs ≡ resume cs (each_dec (λ (k : ℕ). coded (mant_bits h) g) (replicate (6 - j) 0) left)
+    pub there : codes_there (coded (mant_bits h) g) 6 bs ≡ cs ++ codes_there (coded (mant_bits h) g) (6 - j) left
+    pub values : v' ≡ splice v 0 (map (value_of h g) cs)
+    pub exacts : x' ≡ splice x 0 (map (exact_of h g) cs)
 
-  pub none_yet : (p : BitPos) → bit_at p ≡ start → Inside (8 * length s) p → SoFar p 0 v x
-  none_yet p e i =
+  pub none_yet : SoFar bs 0 v x
+  none_yet =
       record {
         cs = [];
         count = refl;
         few = omega arith;
-        inside = i;
-        rest = rw e (sym (resume_none _));
-        there = rw e refl;
-        values = sym (splice_none v at);
-        exacts = sym (splice_none x at);
+        rest = sym (resume_none _);
+        there = refl;
+        values = sym (splice_none v 0);
+        exacts = sym (splice_none x 0);
       }
 
-  -- what a loop answers with, and what it leaves
-  abbrev pub Answered : Result BitPos Refusal → List Float → List ℤ → Type 0
-  Answered r v' x' =
-      (r ≡ move_answer (8 * length s) ((six (mant_bits h) g).dec (drop start (bits_of s))))
-      × ((v' ≡ six_values h g at (drop start (bits_of s)) v) × (x' ≡ six_exacts h g at (drop start (bits_of s)) x))
+  -- what a loop leaves
+  abbrev pub Left : List Float → List ℤ → Type 0
+  Left v' x' = (v' ≡ six_values h g bs v) × (x' ≡ six_exacts h g bs x)
 
-module _ {h g at : ℕ} {s : List ℕ} {start : ℕ} {v : List Float} {x : List ℤ} {p : BitPos} {j : ℕ} {v' : List Float} {x' : List ℤ}
-    (f : SoFar h g at s start v x p j v' x') where
+module _ {h g : ℕ} {bs : List Bool} {v : List Float} {x : List ℤ} {left : List Bool} {j : ℕ} {v' : List Float} {x' : List ℤ} (f : SoFar h g bs v x left j v' x') where
   abbrev one : ℕ → Format Code
   one k = coded (mant_bits h) g
 
-  abbrev here : List Bool
-  here = drop (bit_at p) (bits_of s)
-
   -- in lists that are given by equations
-  pub in_lists : (v'' : List Float) (x'' : List ℤ) → v'' ≡ v' → x'' ≡ x' → SoFar h g at s start v x p j v'' x''
+  pub in_lists : (v'' : List Float) (x'' : List ℤ) → v'' ≡ v' → x'' ≡ x' → SoFar h g bs v x left j v'' x''
   in_lists v'' x'' e e' = rw (e, e') f
 
   -- where the codes so far are all that are there
-  put : (r : Result BitPos Refusal) → r ≡ move_answer (8 * length s) ((six (mant_bits h) g).dec (drop start (bits_of s))) → codes_there (coded (mant_bits h) g) 6 (drop start (bits_of s)) ≡ f.cs
-      → Answered h g at s start v x r v' x'
+  put : codes_there (coded (mant_bits h) g) 6 bs ≡ f.cs → Left h g bs v x v' x'
   unfolding six_values six_exacts
-  put r a e = (a, (rw e f.values, rw e f.exacts))
+  put e = (rw e f.values, rw e f.exacts)
 
   module _ (more : j < 6) where
     turns : 6 - j ≡ suc (6 - (j + 1))
     turns = omega arith
 
-    left : replicate {A = ℕ} (6 - j) 0 ≡ 0 ∷ replicate (6 - (j + 1)) 0
-    left = ap (λ (n : ℕ). replicate {A = ℕ} n 0) turns
+    places : replicate {A = ℕ} (6 - j) 0 ≡ 0 ∷ replicate (6 - (j + 1)) 0
+    places = ap (λ (n : ℕ). replicate {A = ℕ} n 0) turns
 
-    pub one_more_lem : (c : Code) (q : BitPos) (y : Float) (z : ℤ) → at + 6 ≤ length v → at + 6 ≤ length x → Inside (8 * length s) q
-        → (coded (mant_bits h) g).dec here ≡ got c (drop (bit_at q) (bits_of s)) → y ≡ value_of h g c → z ≡ exact_of h g c
-        → SoFar h g at s start v x q (j + 1) (set v' (at + j) y) (set x' (at + j) z)
-    one_more_lem c q y z hv hx i e ey ez =
+    pub one_more_lem : (c : Code) (rest : List Bool) (y : Float) (z : ℤ) → 6 ≤ length v → 6 ≤ length x
+        → (coded (mant_bits h) g).dec left ≡ got c rest → y ≡ value_of h g c → z ≡ exact_of h g c
+        → SoFar h g bs v x rest (j + 1) (set v' j y) (set x' j z)
+    one_more_lem c rest y z hv hx e ey ez =
         let k = f.count in
-        let hv' : at + length f.cs < length v = omega arith in
-        let hx' : at + length f.cs < length x = omega arith in
+        let o : 0 + length f.cs ≡ length f.cs = omega arith in
+        let hv' : 0 + length f.cs < length v = omega arith in
+        let hx' : 0 + length f.cs < length x = omega arith in
+        let pv : set (splice v 0 (map (value_of h g) f.cs)) (0 + length f.cs) (value_of h g c) ≡ splice v 0 (map (value_of h g) (f.cs ++ (c ∷ []))) = put_more (value_of h g) v 0 f.cs c hv' in
+        let px : set (splice x 0 (map (exact_of h g) f.cs)) (0 + length f.cs) (exact_of h g c) ≡ splice x 0 (map (exact_of h g) (f.cs ++ (c ∷ []))) = put_more (exact_of h g) x 0 f.cs c hx' in
         record {
           cs = f.cs ++ (c ∷ []);
           count = length-append f.cs (c ∷ []) ∙ ap (λ (n : ℕ). n + 1) k;
           few = omega arith;
-          inside = i;
-          rest = f.rest ∙ rw left (resume_next one 0 (replicate (6 - (j + 1)) 0) here (drop (bit_at q) (bits_of s)) f.cs c e);
+          rest = f.rest ∙ rw places (resume_next one 0 (replicate (6 - (j + 1)) 0) left rest f.cs c e);
           there =
-              f.there ∙ rw (turns, there_more (coded (mant_bits h) g) (6 - (j + 1)) here c (drop (bit_at q) (bits_of s)) e)
-              (sym (append_assoc f.cs (c ∷ []) (codes_there (coded (mant_bits h) g) (6 - (j + 1)) (drop (bit_at q) (bits_of s)))));
-          values = rw (ey, f.values, ← k) (put_more (value_of h g) v at f.cs c hv');
-          exacts = rw (ez, f.exacts, ← k) (put_more (exact_of h g) x at f.cs c hx');
+              f.there ∙ rw (turns, there_more (coded (mant_bits h) g) (6 - (j + 1)) left c rest e)
+              (sym (append_assoc f.cs (c ∷ []) (codes_there (coded (mant_bits h) g) (6 - (j + 1)) rest)));
+          values = rw (ey, f.values, ← k) (rw o at pv);
+          exacts = rw (ez, f.exacts, ← k) (rw o at px);
         }
 
     -- the bits run out
-    pub cut : (k : Refusal) → (coded (mant_bits h) g).dec here ≡ refused k → Answered h g at s start v x (Err k) v' x'
-    cut k e =
-        let d : (six (mant_bits h) g).dec (drop start (bits_of s)) ≡ refused k = f.rest ∙ rw left (resume_stop one 0 (replicate (6 - (j + 1)) 0) here f.cs k e) in
-        put (Err k) (rw d refl) (f.there ∙ rw (turns, there_cut (coded (mant_bits h) g) (6 - (j + 1)) here k e, append-nil))
+    pub cut : (k : Refusal) → (coded (mant_bits h) g).dec left ≡ refused k → ((six (mant_bits h) g).dec bs ≡ refused k) × Left h g bs v x v' x'
+    cut k e = (
+      f.rest ∙ rw places (resume_stop one 0 (replicate (6 - (j + 1)) 0) left f.cs k e),
+      put (f.there ∙ rw (turns, there_cut (coded (mant_bits h) g) (6 - (j + 1)) left k e, append-nil)),
+    )
 
   -- all six are there
-  pub all_read : 6 ≤ j → (q : BitPos) → q ≡ p → Answered h g at s start v x (Ok q) v' x'
-  all_read l q e =
+  pub all_read : 6 ≤ j → ((six (mant_bits h) g).dec bs ≡ got f.cs left) × Left h g bs v x v' x'
+  all_read l =
       let z : 6 - j ≡ 0 = omega arith in
-      let n : replicate {A = ℕ} (6 - j) 0 ≡ [] = ap (λ (n : ℕ). replicate {A = ℕ} n 0) z in
-      let d : (six (mant_bits h) g).dec (drop start (bits_of s)) ≡ got f.cs here = f.rest ∙ rw n (resume_done one here f.cs) in
-      put (Ok q) (ap Ok (e ∙ sym (pos_is s p f.inside)) ∙ ap (move_answer (8 * length s)) (sym d))
-      (f.there ∙ rw (z, there_none (coded (mant_bits h) g) here, append-nil))
+      let n : replicate {A = ℕ} (6 - j) 0 ≡ [] = ap (λ (n : ℕ). replicate {A = ℕ} n 0) z in (
+        f.rest ∙ rw n (resume_done one left f.cs),
+        put (f.there ∙ rw (z, there_none (coded (mant_bits h) g) left, append-nil)),
+      )
 
 -- ---- the six values put out
 counted : {A : Type 0} (F : ℕ → Format A) (n : ℕ) (cs : List A) → each_Ok F (replicate n 0) cs → length cs ≡ n
@@ -169,20 +159,35 @@ all_there F (suc n) bs rest cs e = first (λ mid rest' ds u. all_there F n mid r
     first r (got c mid) d q = second c mid (each_dec (λ (k : ℕ). F) (replicate n 0) mid) refl q (λ ds rest' u. r mid rest' ds u)
     first r (refused j) d q = let z : ◌≡◌ {A = ℕ} 0 1 = cc in absurd (omega arith)
 
-module _ (h g n : ℕ) (bs : List Bool) (out : List Float) where
-  abbrev shown_as : List Code → List Bool → Got (List Float)
-  shown_as cs rest = got (map (value_of h g) cs) rest
-
-  pub values_none : (k : Refusal) (G : Got (List Code)) → Err k ≡ move_answer n G
-      → (Err k ≡ move_answer n (and_then G shown_as)) × (out ≡ scalars_after out (and_then G shown_as))
-  values_none k (got cs rest) e = let z : ◌≡◌ {A = ℕ} 0 1 = cc in absurd (omega arith)
-  values_none k (refused j) e = (e, refl)
-
-  pub values_all : (q : BitPos) (v v' : List Float) (G : Got (List Code)) → (six (mant_bits h) g).dec bs ≡ G → Ok q ≡ move_answer n G
-      → v' ≡ six_values h g 0 bs v → length v ≡ 6 → (Ok q ≡ move_answer n (and_then G shown_as)) × (v' ≡ scalars_after out (and_then G shown_as))
-  unfolding six_values
-  values_all q v v' (got cs rest) d e p l =
+-- where all six are there, their values are all that is left
+module _ (h g : ℕ) (bs rest : List Bool) (cs : List Code) where
+  all_put : {A : Type 0} (f : Code → A) (v : List A) → (six (mant_bits h) g).dec bs ≡ got cs rest → length v ≡ 6 → splice v 0 (map f (codes_there (coded (mant_bits h) g) 6 bs)) ≡ map f cs
+  all_put f v d l =
       let k = six_there (mant_bits h) g bs rest cs d in
-      let a = all_there (coded (mant_bits h) g) 6 bs rest cs d in
-      (e, p ∙ ap (λ l. splice v 0 (map (value_of h g) l)) a ∙ splice_whole v (map (value_of h g) cs) (l ∙ sym k ∙ sym (length-map cs (value_of h g))))
-  values_all q v v' (refused j) d e p l = let z : ◌≡◌ {A = ℕ} 0 1 = cc in absurd (omega arith)
+      ap (λ l. splice v 0 (map f l)) (all_there (coded (mant_bits h) g) 6 bs rest cs d) ∙ splice_whole v (map f cs) (l ∙ sym k ∙ sym (length-map cs f))
+
+  values_whole : (v : List Float) → (six (mant_bits h) g).dec bs ≡ got cs rest → length v ≡ 6 → six_values h g bs v ≡ map (value_of h g) cs
+  unfolding six_values
+  values_whole = all_put (value_of h g)
+
+  exacts_whole : (x : List ℤ) → (six (mant_bits h) g).dec bs ≡ got cs rest → length x ≡ 6 → six_exacts h g bs x ≡ map (exact_of h g) cs
+  unfolding six_exacts
+  exacts_whole = all_put (exact_of h g)
+
+-- the six values of a bin that is there
+pub values_all : (h g : ℕ) (out v v' : List Float) (before now : FieldReader) → v' ≡ six_values h g (ahead before) v → length v ≡ 6
+    → Takes (λ cs. tt) ((six (mant_bits h) g).dec (ahead before)) (Ok (tt {0})) (λ cs. Unit) before now → v' ≡ scalars_after out (values_read h g (ahead before))
+values_all h g out v v' before now is long t =
+    let d = got_to (λ cs. tt) ((six (mant_bits h) g).dec (ahead before)) (λ cs. Unit) before now tt t in
+    is ∙ values_whole h g (ahead before) (ahead now) d.value v d.is long
+    ∙ ap (λ (G : Got (List Code)). scalars_after out (and_then G (λ cs rest. got (map (value_of h g) cs) rest))) (sym d.is)
+
+-- the values of six places after reading, where all six are there
+pub six_left : (h g : ℕ) (v v' : List Float) (x x' : List ℤ) (before now : FieldReader) (r : Result ⊤ Refusal) → length v ≡ 6 → length x ≡ 6 → v' ≡ six_values h g (ahead before) v → x' ≡ six_exacts h g (ahead before) x
+    → Takes (λ cs. tt {0}) ((six (mant_bits h) g).dec (ahead before)) r (λ cs. Unit {0}) before now → Takes (λ cs. tt {0}) ((six (mant_bits h) g).dec (ahead before)) r (SixLeft h g v' x') before now
+six_left h g v v' x x' before now (Ok u) lv lx ev ex t =
+    let d = got_to (λ cs. tt {0}) ((six (mant_bits h) g).dec (ahead before)) (λ cs. Unit {0}) before now tt t in
+    takes_got (λ cs. tt {0}) ((six (mant_bits h) g).dec (ahead before)) (SixLeft h g v' x') before now d.value d.is d.same
+    (ev ∙ values_whole h g (ahead before) (ahead now) d.value v d.is lv, ex ∙ exacts_whole h g (ahead before) (ahead now) d.value x d.is lx)
+six_left h g v v' x x' before now (Err k) lv lx ev ex t =
+    takes_refused (λ cs. tt {0}) ((six (mant_bits h) g).dec (ahead before)) (SixLeft h g v' x') before now k (refused_by (λ cs. tt {0}) ((six (mant_bits h) g).dec (ahead before)) (λ cs. Unit {0}) before now k t)

@@ -1,22 +1,13 @@
 -- What reading scalar mantissas answers: a code, a bin, read_scalar_aht_mantissas.
 -- docs/FORMAT.md, Levels and 'Small ports'; ATSC A/52 Annex E, 3.4.4.2.
-use Rattle.std.specs.Prelude.{ℕ, ◌*◌, Bool, cond, List, map, eqb, leb, ℤ, pos, negsuc, length, drop, replicate, Float, Result, Ok, Err}
-use Rattle.bits.specs.Bits.{bits_of, bit_at}
+use Rattle.std.specs.Prelude.{ℕ, ◌*◌, Bool, cond, List, map, eqb, leb, ℤ, pos, negsuc, length, drop, replicate, Float}
+use Rattle.bits.specs.Bits.{bits_of}
 use Rattle.bits.specs.Format.{Got, got, refused, and_then}
 use Rattle.tables.specs.Tables.{mant_bits}
 use Rattle.gains.specs.Gains.{gain_value}
-use Rattle.levels.specs.declared.Code.{Code}
 use Rattle.levels.specs.Codes.{six}
 use Rattle.levels.specs.Value.{f0, value_of}
-use Rattle.bits.specs.declared.BitPos.{BitPos}
-use Rattle.answers.specs.declared.Refusal.{Refusal}
 use Rattle.answers.specs.declared.Refusal.TheVariants.{HebapAbove19, InputEnds, OutOfRange}
-
--- ---- the answers: the number, and the values, of each case
--- what an answer of read_code shows of the bits bs: the code and the bits behind it, or the refusal
-abbrev pub code_in : List Bool → Result (Code × BitPos) Refusal → Got Code
-code_in bs (Ok r) = got r.0 (drop (bit_at r.1) bs)
-code_in bs (Err k) = refused k
 
 -- ---- read_scalar_aht_mantissas
 -- Gk: by the gain code where gaqbin is 1, else 1

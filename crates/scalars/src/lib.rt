@@ -1,198 +1,142 @@
 // The reading of scalar mantissas: a code, the six codes of a bin, and read_scalar_aht_mantissas of the Rust.
 #![tactic(auto)]
 
-ghost use Rattle.std.specs.Prelude.{◌≡◌, ◌+◌, ◌*◌, ◌<◌, ◌≤◌, length, drop, replicate, set};
-ghost use Rattle.bits.specs.Bits.{bits_of, bit_at, Inside};
-ghost use Rattle.bits.specs.Format.{got};
-ghost use Rattle.tables.specs.Tables.{mant_bits};
-ghost use Rattle.levels.specs.Codes.{tagged, coded, six, Accepted};
-ghost use Rattle.levels.specs.Exact.{exact_of};
-ghost use Rattle.levels.specs.Value.{f0, value_of};
+ghost use Rattle.std.specs.Prelude.{◌≡◌, ◌≢◌, ◌+◌, ◌*◌, ◌≤◌, Ok, length};
+ghost use Rattle.bits.specs.Bits.{bit_at};
 ghost use Rattle.bits.specs.Format.{move_answer};
-ghost use Rattle.scalars.specs.Scalars.{code_in, gain_of, values_read, bin_read, scalars_read, scalars_after};
-ghost use Rattle.scalars.specs.Work.{CodeNext, six_values, six_exacts};
+ghost use Rattle.bits.specs.Takes.{ahead, Takes};
+ghost use Rattle.tables.specs.Tables.{mant_bits};
+ghost use Rattle.levels.specs.Codes.{tagged, coded, six};
+ghost use Rattle.scalars.specs.Scalars.{gain_of, values_read, bin_read, scalars_read, scalars_after};
+ghost use Rattle.scalars.specs.Work.{six_values, six_exacts, SixLeft};
 
 use answers::Refusal;
 use bits::BitPos;
+use bits::field_reader::FieldReader;
 use levels::{Code, CodeScale};
 
-// A code and how many bits it takes.
-#[derive(Clone, Copy)]
-pub struct CodeAhead {
-    pub code: Code,
-    pub bits: u32,
-}
-
 // s in w bits; the tag is followed by l in v bits.
-fn read_tagged(src: &[u8], pos: BitPos, w: u32, v: u32) -> Result<(Code, BitPos), Refusal>
-    requires le_w { (1 ≤ w) × (w ≤ 16) × (v ≤ 16) }
-    requires pos_bound { bit_at pos ≤ 8 * length src.now }
-    ensures result_value { code_in (bits_of src.now) result ≡ (tagged w v).dec (drop (bit_at pos) (bits_of src.now)) }
-    ensures code_next { CodeNext (8 * length src.now) result }
+fn read_tagged(reader: &mut FieldReader, w: u32, v: u32) -> Result<Code, Refusal>
+    requires { (1 ≤ w) × (w ≤ 16) × (v ≤ 16) }
+    ensures { Takes (λ c. c) ((tagged w v).dec (ahead reader.old)) result (λ c. Unit) reader.old reader.new }
 {
-    let (s, next) = pos.read_u32(src, w)?;
+    let s = reader.read_u32(w)?;
     if s != bits::pow2(w - 1) {
-        return Ok((Code::Small(s), next));
+        return Ok(Code::Small(s));
     }
-    let (l, last) = next.read_u32(src, v)?;
-    Ok((Code::Large(l), last))
+    Ok(Code::Large(reader.read_u32(v)?))
 }
 
 // A code of the hebap at the gain.
 #[tactic(auto, using(tables::proofs::Rules::mant_bits_lem, levels::proofs::CodeLaws::coded_tagged))]
-pub fn read_code(src: &[u8], pos: BitPos, hebap: u8, gk: u8) -> Result<(Code, BitPos), Refusal>
-    requires le_hebap { (8 ≤ hebap) × (hebap ≤ 19) }
-    requires pos_bound { bit_at pos ≤ 8 * length src.now }
-    ensures result_value { code_in (bits_of src.now) result ≡ (coded (mant_bits hebap) gk).dec (drop (bit_at pos) (bits_of src.now)) }
-    ensures code_next { CodeNext (8 * length src.now) result }
+pub fn read_code(reader: &mut FieldReader, hebap: u8, gk: u8) -> Result<Code, Refusal>
+    requires { (8 ≤ hebap) × (hebap ≤ 19) }
+    ensures { Takes (λ c. c) ((coded (mant_bits hebap) gk).dec (ahead reader.old)) result (λ c. Unit) reader.old reader.new }
 {
     let m = levels::mant(hebap);
     if gk == 1 {
-        let (l, next) = pos.read_u32(src, m)?;
-        return Ok((Code::Large(l), next));
+        return Ok(Code::Large(reader.read_u32(m)?));
     }
-    read_tagged(
-        src,
-        pos,
-        levels::small_bits(m, gk),
-        levels::large_bits(m, gk),
-    )
+    read_tagged(reader, levels::small_bits(m, gk), levels::large_bits(m, gk))
 }
 
-// The f32 and the exact value of a code go to the place `at`.
-fn put_values(s: CodeScale, code: Code, at: usize, values: &mut [f32], exact: &mut [i32])
-    requires accepted { Accepted s.hebap s.gk code }
-    requires at_in_bounds { (at < length values.old) × (at < length exact.old) }
-    ensures values_after { values.new ≡ set values.old at (value_of s.hebap s.gk code) }
-    ensures exact_after { exact.new ≡ set exact.old at (exact_of s.hebap s.gk code) }
-{
-    values[at] = levels::value_of(levels::level_of(s, code));
-    exact[at] = levels::exact_value(s, code);
-}
-
-// Six codes of Gk 1, bounds-checked by the caller.
-fn read_fixed(
-    s: CodeScale,
-    src: &[u8],
-    pos: BitPos,
-    at: usize,
-    values: &mut [f32],
-    exact: &mut [i32],
-) -> BitPos
+// Six codes of Gk 1, bounds-checked by the caller. A copy of the reader stays in registers: the position of one that is
+// lent goes through memory at each code.
+fn read_fixed(reader: &mut FieldReader, s: CodeScale, values: &mut [f32; 6], exact: &mut [i32; 6])
     requires gk_value { s.gk ≡ 1 }
-    requires bit_bound { (pos.bit < 8) × (pos.byte + 28 ≤ length src.now) }
-    requires at_in_bounds { (at + 6 ≤ length values.old) × (at + 6 ≤ length exact.old) }
-    ensures result_value { Ok result ≡ move_answer (8 * length src.now) ((six (mant_bits s.hebap) s.gk).dec (drop (bit_at pos) (bits_of src.now))) }
-    ensures values_after { values.new ≡ six_values s.hebap s.gk at (drop (bit_at pos) (bits_of src.now)) values.old }
-    ensures exact_after { exact.new ≡ six_exacts s.hebap s.gk at (drop (bit_at pos) (bits_of src.now)) exact.old }
+    requires there { reader.old.pos.byte + 28 ≤ length reader.old.src.now }
+    ensures reads { Takes (λ cs. tt) ((six (mant_bits s.hebap) s.gk).dec (ahead reader.old)) (Ok (tt {0})) (λ cs. Unit) reader.old reader.new }
+    ensures values_after { values.new ≡ six_values s.hebap s.gk (ahead reader.old) values.old }
+    ensures exact_after { exact.new ≡ six_exacts s.hebap s.gk (ahead reader.old) exact.old }
 {
-    let mut d: u32 = 0;
+    let mut local = *reader;
+    // by index, since two arrays are filled in step
     for j in 0..6 {
-        let p = pos.advance_bits(d);
-        let u = p.peek_word(src, s.large);
-        values[at + j] = levels::fixed_value(s, u);
-        exact[at + j] = levels::fixed_exact(s, u);
-        d += s.large;
+        let u = local.take_word(s.large);
+        values[j] = levels::fixed_value(s, u);
+        exact[j] = levels::fixed_exact(s, u);
     }
-    pos.advance_bits(d)
+    *reader = local;
 }
 
-// The code of another gain that stands at pos, bounds-checked by the caller.
-fn code_ahead(s: CodeScale, src: &[u8], pos: BitPos) -> CodeAhead
-    requires fact { s.gk ≡ 1 → ⊥ }
-    requires bit_bound { (pos.bit < 8) × (pos.byte + 8 ≤ length src.now) }
-    ensures src_value { (coded (mant_bits s.hebap) s.gk).dec (drop (bit_at pos) (bits_of src.now)) ≡ got result.code (drop (bit_at pos + result.bits) (bits_of src.now)) }
-    ensures bits_bound { result.bits ≤ 30 }
+// The next code of another gain, bounds-checked by the caller.
+fn take_code(reader: &mut FieldReader, s: CodeScale) -> Code
+    requires other { s.gk ≢ 1 }
+    requires there { reader.old.pos.byte + 8 ≤ length reader.old.src.now }
+    ensures reads { Takes (λ c. c) ((coded (mant_bits s.hebap) s.gk).dec (ahead reader.old)) (Ok result) (λ c. Unit) reader.old reader.new }
+    ensures near { bit_at reader.new.pos ≤ bit_at reader.old.pos + 30 }
 {
-    let u = pos.peek_word(src, s.small);
+    let u = reader.take_word(s.small);
     if u == bits::pow2(s.small - 1) {
-        let q = pos.advance_bits(s.small);
-        let l = q.peek_word(src, s.large);
-        return CodeAhead {
-            code: Code::Large(l),
-            bits: s.small + s.large,
-        };
+        return Code::Large(reader.take_word(s.large));
     }
-    CodeAhead {
-        code: Code::Small(u),
-        bits: s.small,
-    }
+    Code::Small(u)
 }
 
 // Six codes of another gain, bounds-checked by the caller.
 fn read_small_or_large(
+    reader: &mut FieldReader,
     s: CodeScale,
-    src: &[u8],
-    pos: BitPos,
-    at: usize,
-    values: &mut [f32],
-    exact: &mut [i32],
-) -> BitPos
-    requires fact { s.gk ≡ 1 → ⊥ }
-    requires bit_bound { (pos.bit < 8) × (pos.byte + 28 ≤ length src.now) }
-    requires at_in_bounds { (at + 6 ≤ length values.old) × (at + 6 ≤ length exact.old) }
-    ensures result_value { Ok result ≡ move_answer (8 * length src.now) ((six (mant_bits s.hebap) s.gk).dec (drop (bit_at pos) (bits_of src.now))) }
-    ensures values_after { values.new ≡ six_values s.hebap s.gk at (drop (bit_at pos) (bits_of src.now)) values.old }
-    ensures exact_after { exact.new ≡ six_exacts s.hebap s.gk at (drop (bit_at pos) (bits_of src.now)) exact.old }
+    values: &mut [f32; 6],
+    exact: &mut [i32; 6],
+)
+    requires other { s.gk ≢ 1 }
+    requires there { reader.old.pos.byte + 28 ≤ length reader.old.src.now }
+    ensures reads { Takes (λ cs. tt) ((six (mant_bits s.hebap) s.gk).dec (ahead reader.old)) (Ok (tt {0})) (λ cs. Unit) reader.old reader.new }
+    ensures values_after { values.new ≡ six_values s.hebap s.gk (ahead reader.old) values.old }
+    ensures exact_after { exact.new ≡ six_exacts s.hebap s.gk (ahead reader.old) exact.old }
 {
-    let mut d: u32 = 0;
+    let mut local = *reader;
+    // by index, since two arrays are filled in step
     for j in 0..6 {
-        let p = pos.advance_bits(d);
-        let c = code_ahead(s, src, p);
-        put_values(s, c.code, at + j, &mut *values, &mut *exact);
-        d += c.bits;
+        let code = take_code(&mut local, s);
+        values[j] = levels::value_of(levels::level_of(s, code));
+        exact[j] = levels::exact_value(s, code);
     }
-    pos.advance_bits(d)
+    *reader = local;
 }
 
 // Six codes, each bounds-checked. Where the bits run out, the values of the codes before stand in the outputs.
 fn read_each(
+    reader: &mut FieldReader,
     s: CodeScale,
-    src: &[u8],
-    pos: BitPos,
-    at: usize,
-    values: &mut [f32],
-    exact: &mut [i32],
-) -> Result<BitPos, Refusal>
-    requires inside { Inside (8 * length src.now) pos }
-    requires at_in_bounds { (at + 6 ≤ length values.old) × (at + 6 ≤ length exact.old) }
-    ensures value { result ≡ move_answer (8 * length src.now) ((six (mant_bits s.hebap) s.gk).dec (drop (bit_at pos) (bits_of src.now))) }
-    ensures values_after { values.new ≡ six_values s.hebap s.gk at (drop (bit_at pos) (bits_of src.now)) values.old }
-    ensures exact_after { exact.new ≡ six_exacts s.hebap s.gk at (drop (bit_at pos) (bits_of src.now)) exact.old }
+    values: &mut [f32; 6],
+    exact: &mut [i32; 6],
+) -> Result<(), Refusal>
+    ensures reads { Takes (λ cs. tt) ((six (mant_bits s.hebap) s.gk).dec (ahead reader.old)) result (λ cs. Unit) reader.old reader.new }
+    ensures values_after { values.new ≡ six_values s.hebap s.gk (ahead reader.old) values.old }
+    ensures exact_after { exact.new ≡ six_exacts s.hebap s.gk (ahead reader.old) exact.old }
 {
-    let mut p = pos;
+    // by index, since two arrays are filled in step
     for j in 0..6 {
-        let (code, next) = read_code(src, p, s.hebap, s.gk)?;
-        put_values(s, code, at + j, &mut *values, &mut *exact);
-        p = next;
+        let code = read_code(reader, s.hebap, s.gk)?;
+        values[j] = levels::value_of(levels::level_of(s, code));
+        exact[j] = levels::exact_value(s, code);
     }
-    Ok(p)
+    Ok(())
 }
 
-// The six codes of a bin: their f32 and exact values go to the places from `at` on. Six codes reach 24 bytes far at
-// most (7 + 180 bits), and four bytes are read at once: 28 bytes ahead are bounds check enough for all.
+// The six codes of a bin: their f32 and exact values. Six codes reach 24 bytes far at most (7 + 180 bits), and four
+// bytes are read at once: 28 bytes ahead are bounds check enough for all.
 pub fn read_six(
+    reader: &mut FieldReader,
     s: CodeScale,
-    src: &[u8],
-    pos: BitPos,
-    at: usize,
-    values: &mut [f32],
-    exact: &mut [i32],
-) -> Result<BitPos, Refusal>
-    requires inside { Inside (8 * length src.now) pos }
-    requires at_in_bounds { (at + 6 ≤ length values.old) × (at + 6 ≤ length exact.old) }
-    ensures value { result ≡ move_answer (8 * length src.now) ((six (mant_bits s.hebap) s.gk).dec (drop (bit_at pos) (bits_of src.now))) }
-    ensures values_after { values.new ≡ six_values s.hebap s.gk at (drop (bit_at pos) (bits_of src.now)) values.old }
-    ensures exact_after { exact.new ≡ six_exacts s.hebap s.gk at (drop (bit_at pos) (bits_of src.now)) exact.old }
+    values: &mut [f32; 6],
+    exact: &mut [i32; 6],
+) -> Result<(), Refusal>
+    ensures reads { Takes (λ cs. tt) ((six (mant_bits s.hebap) s.gk).dec (ahead reader.old)) result (SixLeft s.hebap s.gk values.new exact.new) reader.old reader.new }
+    ensures values_after { values.new ≡ six_values s.hebap s.gk (ahead reader.old) values.old }
+    ensures exact_after { exact.new ≡ six_exacts s.hebap s.gk (ahead reader.old) exact.old }
 {
-    let byte = pos.byte;
-    if byte + 28 <= src.len() {
-        if s.gk == 1 {
-            return Ok(read_fixed(s, src, pos, at, values, exact));
-        }
-        return Ok(read_small_or_large(s, src, pos, at, values, exact));
+    if !reader.has_bytes(28) {
+        return read_each(reader, s, values, exact);
     }
-    read_each(s, src, pos, at, values, exact)
+    if s.gk == 1 {
+        read_fixed(reader, s, values, exact);
+    } else {
+        read_small_or_large(reader, s, values, exact);
+    }
+    Ok(())
 }
 
 // Gk of a bin.
@@ -207,44 +151,38 @@ fn gain_of(gaqbin: i8, gain_code: u8, gaqmod: u8) -> u8
 
 // The six values of a bin: the output is written only when all six codes are there.
 fn read_values(
-    src: &[u8],
-    pos: BitPos,
+    reader: &mut FieldReader,
     hebap: u8,
     gk: u8,
-    out: &mut [f32],
-) -> Result<BitPos, Refusal>
-    requires le_hebap { (8 ≤ hebap) × (hebap ≤ 19) }
-    requires inside { Inside (8 * length src.now) pos }
-    requires out_len { length out.old ≡ 6 }
-    ensures value { result ≡ move_answer (8 * length src.now) (values_read hebap gk (drop (bit_at pos) (bits_of src.now))) }
-    ensures out_after { out.new ≡ scalars_after out.old (values_read hebap gk (drop (bit_at pos) (bits_of src.now))) }
+    out: &mut [f32; 6],
+) -> Result<(), Refusal>
+    requires { (8 ≤ hebap) × (hebap ≤ 19) }
+    ensures reads { Takes (λ ys. tt) (values_read hebap gk (ahead reader.old)) result (λ ys. Unit) reader.old reader.new }
+    ensures out_after { out.new ≡ scalars_after out.old (values_read hebap gk (ahead reader.old)) }
 {
-    let s = levels::scale_at(hebap, gk);
     let mut values = [0.0f32; 6];
     let mut exact = [0i32; 6];
-    let next = read_each(s, src, pos, 0, &mut values, &mut exact)?;
-    out.copy_from_slice(&values);
-    Ok(next)
+    read_each(reader, levels::scale_at(hebap, gk), &mut values, &mut exact)?;
+    *out = values;
+    Ok(())
 }
 
 // The same for any hebap up to 19.
-fn read_bin(src: &[u8], pos: BitPos, hebap: u8, gk: u8, out: &mut [f32]) -> Result<BitPos, Refusal>
-    requires hebap_bound { hebap ≤ 19 }
-    requires inside { Inside (8 * length src.now) pos }
-    requires out_len { length out.old ≡ 6 }
-    ensures value { result ≡ move_answer (8 * length src.now) (bin_read hebap gk (drop (bit_at pos) (bits_of src.now))) }
-    ensures out_after { out.new ≡ scalars_after out.old (bin_read hebap gk (drop (bit_at pos) (bits_of src.now))) }
+fn read_bin(reader: &mut FieldReader, hebap: u8, gk: u8, out: &mut [f32; 6]) -> Result<(), Refusal>
+    requires { hebap ≤ 19 }
+    ensures reads { Takes (λ ys. tt) (bin_read hebap gk (ahead reader.old)) result (λ ys. Unit) reader.old reader.new }
+    ensures out_after { out.new ≡ scalars_after out.old (bin_read hebap gk (ahead reader.old)) }
 {
     if hebap < 8 {
-        out.copy_from_slice(&[0.0; 6]);
-        return Ok(pos);
+        *out = [0.0; 6];
+        return Ok(());
     }
-    read_values(src, pos, hebap, gk, out)
+    read_values(reader, hebap, gk, out)
 }
 
-#[tactic(auto, using(crate::proofs::Laws::scalars_mode, crate::proofs::Laws::scalars_hebap, crate::proofs::Laws::scalars_past))]
 // Reads the six mantissas of a bin. Refuses with 12 a mode above 3, then with 4 a hebap above 19, then with 8;
 // a refusal leaves the output as it was.
+#[tactic(auto, using(crate::proofs::Laws::scalars_mode, crate::proofs::Laws::scalars_hebap, crate::proofs::Laws::scalars_past))]
 pub fn read_scalar_aht_mantissas(
     src: &[u8],
     pos: BitPos,
@@ -267,5 +205,7 @@ pub fn read_scalar_aht_mantissas(
         return Err(Refusal::InputEnds);
     }
     let gk = gain_of(gaqbin, gain_code, gaqmod);
-    read_bin(src, pos.advance(1, 0), hebap, gk, out)
+    let mut reader = FieldReader::new(src, pos);
+    read_bin(&mut reader, hebap, gk, out)?;
+    Ok(reader.pos)
 }

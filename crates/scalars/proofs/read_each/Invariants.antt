@@ -1,7 +1,10 @@
--- `scalars::read_each` meets its contract. The invariant is Six.SoFar: the codes read so far. Assumes nothing.
-use Rattle.bits.specs.Bits.{bit_at}
+-- `scalars::read_each` meets its contract. The invariant is Six.SoFar: the codes read so far, of the same bytes. Assumes nothing.
+use mathlib.Core.Path.{◌≡◌}
+use Rattle.bits.specs.Takes.{ahead}
 use Rattle.scalars.proofs.Six.{SoFar}
 use Rattle.scalars.proofs.read_each.Given as goal
 
 abbrev pub invariant-loop-j : goal.invariant-loop-j
-invariant-loop-j l = SoFar l.s.hebap l.s.gk l.at l.src (bit_at l.initial.p) l.initial.values l.initial.exact l.p l.j l.values l.exact
+invariant-loop-j l =
+    SoFar l.s.hebap l.s.gk (ahead l.initial.reader) l.initial.values l.initial.exact (ahead l.reader) l.j l.values l.exact
+    × (l.reader.src.now ≡ l.initial.reader.src.now)

@@ -1,10 +1,16 @@
 -- `scalars::read_six` meets its contract. Assumes nothing.
+use native.Mathlib.Omega.{arith}
+use Rattle.scalars.proofs.Six.{six_left}
 use Rattle.scalars.proofs.read_six.Goals as goal
 
-pub read_fixed-requires : goal.read_fixed-requires
-read_fixed-requires c = let h = c.if-byte-src.true in
-    record { gk_value = c.if-s-eq1.true; bit_bound = (c.requires.inside.1, h); at_in_bounds = c.requires.at_in_bounds }
+pub returns-then-not-has_bytes-clause-reads : goal.returns-then-not-has_bytes-clause-reads
+returns-then-not-has_bytes-clause-reads c = let a = c.args in let e = c.read_each.ensures in
+    six_left a.s.hebap a.s.gk a.values.now _ a.exact.now _ a.reader.now _ _ (omega arith) (omega arith) e.values_after e.exact_after e.reads
 
-pub read_small_or_large-requires : goal.read_small_or_large-requires
-read_small_or_large-requires c = let h = c.if-byte-src.true in
-    record { fact = c.if-s-eq1.false; bit_bound = (c.requires.inside.1, h); at_in_bounds = c.requires.at_in_bounds }
+pub returns-then-s-eq1-clause-reads : goal.returns-then-s-eq1-clause-reads
+returns-then-s-eq1-clause-reads c = let a = c.args in let e = c.read_fixed.ensures in
+    six_left a.s.hebap a.s.gk a.values.now _ a.exact.now _ a.reader.now _ _ (omega arith) (omega arith) e.values_after e.exact_after e.reads
+
+pub returns-else-s-eq1-clause-reads : goal.returns-else-s-eq1-clause-reads
+returns-else-s-eq1-clause-reads c = let a = c.args in let e = c.read_small_or_large.ensures in
+    six_left a.s.hebap a.s.gk a.values.now _ a.exact.now _ a.reader.now _ _ (omega arith) (omega arith) e.values_after e.exact_after e.reads
