@@ -65,6 +65,14 @@ def constant(name, kind, words):
     return [head] + body + ['];']
 
 
+def constant_rows(name, kind, rows):
+    """The lines of a static array of rows in rt fmt's layout, where no row is short enough for one line."""
+    lines = ['pub static %s: [[%s; %d]; %d] = [' % (name, kind, len(rows[0]), len(rows))]
+    for row in rows:
+        lines += ['    ['] + textwrap.wrap(', '.join(row) + ',', 99, initial_indent=' ' * 8, subsequent_indent=' ' * 8, break_on_hyphens=False) + ['    ],']
+    return lines + ['];']
+
+
 def code_text(tables):
     lines = ['// The tables of ATSC A/52 Annex E as the Rust has them, each flat. Made by tools/tables.py.']
     for name, kind, numbers in tables:
@@ -101,8 +109,8 @@ def scales_text(tables):
     lines = ['// What the codes of a hebap and a gain have in common, a row each: hebap 8 to 19 at Gk 1, 2 and 4. By tools/tables.py.', '',
              '// By bit patterns: a and b (for x >= 0 and for x < 0) as fractions, 1 / 2^(m-1), 1 / 2^(bits of a large code - 1);',
              '// then the bits of small and of large codes; a step of each and both b, the second by its size, in units of 2^-30.']
-    words = ['0x%08x' % x if i < 5 else '%d' % x for row in scales(tables) for i, x in enumerate(row)]
-    return '\n'.join(lines + constant('SCALES', 'u32', words)) + '\n'
+    rows = [['0x%08x' % x if i < 5 else '%d' % x for i, x in enumerate(row)] for row in scales(tables)]
+    return '\n'.join(lines + constant_rows('SCALES', 'u32', rows)) + '\n'
 
 
 def fractions_text(tables):
@@ -145,7 +153,7 @@ def ours():
 
 def scales_read():
     """The numbers of SCALES in the repository."""
-    body = re.search(r'pub static SCALES: \[u32; \d+\] = \[(.*?)\];', open(SCALES, encoding='utf-8').read(), re.S).group(1)
+    body = re.search(r'pub static SCALES: \[\[u32; \d+\]; \d+\] = \[(.*?)\n\];', open(SCALES, encoding='utf-8').read(), re.S).group(1)
     return [int(x, 0) for x in re.findall(r'0x\w+|\d+', body)]
 
 

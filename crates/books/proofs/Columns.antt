@@ -1,7 +1,7 @@
 -- A book in component order: where its numbers are; its search is the search through the book. Assumes nothing.
 use Prim.Native.Nat.{ℕ, zero, suc, ◌+◌, ◌*◌, ◌/◌, ◌%◌, ◌^◌, ◌<◌, ◌≤◌}
 use mathlib.Core.Path.{◌≡◌, refl, ap, sym, ◌∙◌}
-use mathlib.Core.Bool.{false, true≢false}
+use mathlib.Core.Bool.{Bool, true, false, cond, true≢false}
 use mathlib.Core.List.{List, [], ◌∷◌, ◌++◌}
 use native.Mathlib.Nat.{zero-mul, suc-mul, mul_comm, mod-lt, mod-add-div, div-lt_iff_lt-mul}
 use native.Mathlib.Omega.{arith}
@@ -11,14 +11,18 @@ use lib.Signed.{mag}
 use lib.Ieee.Bits.{nan_bits_is}
 use lib.Seq.{get_or-append-add, get_or-drop}
 use lib.Ieee.{Float, nan, inf, fin, binary32, of_bits, nan_bits, is_nan}
-use Rattle.tables.specs.Tables.{book}
+use Rattle.tables.specs.Tables.{book, vq_bits}
+use Rattle.tables.proofs.Rules.{book_fits, vq_most}
+use lib.Dec.{eqb}
+use lib.Pow.{pow_mono}
+use borrow.Author.Tests.{eqb-true, eqb-false}
 use Rattle.levels.specs.Component.{beyond}
 use Rattle.levels.specs.Value.{f0, q15}
 use Rattle.books.specs.Fractions.{column, by_component, floats, FractionsOf}
-use Rattle.books.specs.Books.{term_of, sum_to, distance_of, search_from, nearest_in, vectors_of, search_of}
+use Rattle.books.specs.Books.{term_of, sum_to, distance_of, search_from, nearest_in, has_book, vectors_of, search_of}
 use Rattle.books.specs.Work.{distance_by, distance_in, NoNans}
 use Rattle.books.proofs.First.{entry_most}
-use Rattle.books.proofs.Laws.{HasBook}
+use Rattle.books.proofs.Laws.{HasBook, has_book_lem}
 
 -- ---- the f32 at a place
 pub float_at : (l : List ℕ) (i : ℕ) → i < length l → get_or (floats l) i nan ≡ of_bits binary32 (get_or l i 0)
@@ -132,6 +136,27 @@ columns_length n b =
 pub book_length : (h : ℕ) (t : List ℕ) → FractionsOf h t → length t ≡ 6 * vectors_of h
 unfolding floats
 book_length h t e = sym (length-map t (of_bits binary32)) ∙ ap length e ∙ columns_length (vectors_of h) (book h)
+
+-- it has few vectors, and no NaNs
+pub few_vectors : (h : ℕ) → vectors_of h < 1024
+few_vectors h = go (has_book h)
+  where
+    go : (t : Bool) → cond t (2 ^ vq_bits h) 0 < 1024
+    go true = let m : 2 ^ vq_bits h ≤ 2 ^ 9 = pow_mono (vq_most h) in omega arith
+    go false = omega arith
+
+pub columns_no_nans : (h : ℕ) (t : List ℕ) → FractionsOf h t → NoNans t
+columns_no_nans h t e = go (eqb (vectors_of h) 0) refl
+  where
+    long : length t ≡ 6 * vectors_of h
+    long = book_length h t e
+
+    go : (z : Bool) → eqb (vectors_of h) 0 ≡ z → NoNans t
+    go true q = let z = eqb-true (vectors_of h) 0 q in let l = long in record { each = λ i u. absurd (omega arith) }
+    go false q =
+        let k = has_book_lem h (vectors_of h) refl (eqb-false (vectors_of h) 0 q) in
+        let l = long in
+        no_nans t (vectors_of h) (book h) (λ i. book_fits h i k.low k.high) k.some (omega arith) e
 
 -- what the search through it answers
 pub searched : (h n : ℕ) (t : List ℕ) (x : List Float) (r : ℕ) → n ≡ vectors_of h → HasBook h n → FractionsOf h t

@@ -1,5 +1,5 @@
--- How the search is made fast; Books says what holds. The law that joins them: `by_component_lem` (proofs/Columns.antt),
--- this search is `nearest_in`.
+-- How the search is made fast; Books says what holds. The law that joins them: `by_component_lem`
+-- (proofs/Columns.antt), this search is `nearest_in`.
 use Rattle.std.specs.Prelude.{ℕ, ◌+◌, ◌*◌, ◌<◌, ◌≡◌, false, cond, List, length, get_or, Float}
 use Rattle.std.specs.Float.{nan, binary32}
 use Rattle.std.specs.Float.Ieee.{nan_bits, lt}

@@ -5,12 +5,11 @@ ghost use Rattle.std.specs.Prelude.{◌≡◌, ◌||◌, ◌+◌, ◌*◌, ◌�
 ghost use Rattle.std.specs.Float.Ieee.{lt};
 ghost use Rattle.std.specs.Float.{nan};
 ghost use Rattle.levels.specs.Value.{q15};
-ghost use Rattle.bits.specs.Bits.{splice};
 ghost use Rattle.tables.specs.Tables.{vq_bits};
 ghost use Rattle.books.specs.Books.{vectors_of, six_at, vq_lookup, exact_entry, exacts_at, vq_exact};
 ghost use Rattle.books.specs.Books.{term_of, search_of, vq_search};
 ghost use Rattle.books.specs.Fractions.{floats, FractionsOf};
-ghost use Rattle.books.specs.Work.{NoNans, nearer_of, distance_by};
+ghost use Rattle.books.specs.Work.{NoNans, nearer_of, distance_in};
 
 mod consts;
 
@@ -49,6 +48,14 @@ fn fraction(b: &[i16], i: usize) -> f32
     levels::q15(b[i])
 }
 
+// The same number as an exact value.
+fn exact_entry(b: &[i16], i: usize) -> i32
+    requires { i < length b.now }
+    ensures { result ≡ exact_entry (get_or b.now i (pos 0)) }
+{
+    i32::from(b[i]) * 32768
+}
+
 // The six numbers of a book from the place a on, as fractions.
 fn six(b: &[i16], a: usize) -> [f32; 6]
     requires { (a + 6 ≤ length b.now) × (a < 65536) }
@@ -64,6 +71,22 @@ fn six(b: &[i16], a: usize) -> [f32; 6]
     ]
 }
 
+// The same six as exact values. One function over both, with the conversion as a closure, is no plainer: its clause
+// is six postconditions, each over an i16 that the proof converts there and back, and both callers restate them.
+fn exact_six(b: &[i16], a: usize) -> [i32; 6]
+    requires { (a + 6 ≤ length b.now) × (a < 65536) }
+    ensures { result ≡ exacts_at b.now a }
+{
+    [
+        exact_entry(b, a),
+        exact_entry(b, a + 1),
+        exact_entry(b, a + 2),
+        exact_entry(b, a + 3),
+        exact_entry(b, a + 4),
+        exact_entry(b, a + 5),
+    ]
+}
+
 // The vector at an index of the book of the hebap, modulo its number of vectors; zeros where there is no book.
 pub fn vq_lookup(hebap: u8, index: usize) -> [f32; 6]
     ensures { result ≡ vq_lookup hebap index }
@@ -75,34 +98,16 @@ pub fn vq_lookup(hebap: u8, index: usize) -> [f32; 6]
     six(tables::vq_book(hebap), index % n * 6)
 }
 
-fn exact_entry(e: i16) -> i32
-    ensures { result ≡ exact_entry e }
+// The vector at an index of the book of the hebap, as f32 and as exact values.
+pub fn put_vector(hebap: u8, index: usize, values: &mut [f32; 6], exact: &mut [i32; 6])
+    requires { (1 ≤ hebap) × (hebap ≤ 7) × (index < 2 ^ vq_bits hebap) }
+    ensures values_after { values.new ≡ vq_lookup hebap index }
+    ensures exact_after { exact.new ≡ vq_exact hebap index }
 {
-    i32::from(e) * 32768
-}
-
-// The six numbers of the book from the place a on go to the places from `at` on, as fractions and as exact values.
-fn put_six(book: &[i16], a: usize, at: usize, values: &mut [f32], exact: &mut [i32])
-    requires a_in_bounds { (a + 6 ≤ length book.now) × (a < 65536) }
-    requires at_in_bounds { (at + 6 ≤ length values.old) × (at + 6 ≤ length exact.old) }
-    ensures values_after { values.new ≡ splice values.old at (six_at book.now a) }
-    ensures exact_after { exact.new ≡ splice exact.old at (exacts_at book.now a) }
-{
-    for j in 0..6 {
-        let e = book[a + j];
-        values[at + j] = levels::q15(e);
-        exact[at + j] = exact_entry(e);
-    }
-}
-
-// The vector at an index of the book of the hebap goes to the places from `at` on, as f32 and as exact values.
-pub fn put_vector(hebap: u8, index: usize, at: usize, values: &mut [f32], exact: &mut [i32])
-    requires le_hebap { (1 ≤ hebap) × (hebap ≤ 7) × (index < 2 ^ vq_bits hebap) }
-    requires at_in_bounds { (at + 6 ≤ length values.old) × (at + 6 ≤ length exact.old) }
-    ensures values_after { values.new ≡ splice values.old at (vq_lookup hebap index) }
-    ensures exact_after { exact.new ≡ splice exact.old at (vq_exact hebap index) }
-{
-    put_six(tables::vq_book(hebap), index * 6, at, values, exact);
+    let book = tables::vq_book(hebap);
+    let a = index * 6;
+    *values = six(book, a);
+    *exact = exact_six(book, a);
 }
 
 // ---- searching
@@ -133,28 +138,42 @@ fn term(d: f32, x: f32, t: &[u32], i: usize) -> f32
     d + diff * diff
 }
 
-// The distance of six numbers from vector k of the n vectors of a book in component order.
-fn distance(
-    t: &[u32],
-    n: usize,
-    k: usize,
-    x0: f32,
-    x1: f32,
-    x2: f32,
-    x3: f32,
-    x4: f32,
-    x5: f32,
-) -> f32
-    requires n_in_bounds { (n * 6 ≤ length t.now) × (n < 1024) × (k < n) }
-    requires no_nans { NoNans t.now }
-    ensures { result ≡ distance_by (floats t.now) n k x0 x1 x2 x3 x4 x5 }
-{
-    let a = term(0.0f32, x0, t, k);
-    let b = term(a, x1, t, k + n);
-    let c = term(b, x2, t, k + 2 * n);
-    let d = term(c, x3, t, k + 3 * n);
-    let e = term(d, x4, t, k + 4 * n);
-    term(e, x5, t, k + 5 * n)
+// A book in component order, and how many vectors it has.
+#[derive(Clone, Copy)]
+struct BookColumns<'a> {
+    columns: &'a [u32],
+    count: usize,
+    ghost whole: { count * 6 ≤ length columns.now },
+    ghost few: { count < 1024 },
+    ghost no_nans: { NoNans columns.now },
+}
+
+impl BookColumns<'_> {
+    // The book of the hebap; no vectors where there is none.
+    fn of(hebap: u8) -> BookColumns<'static>
+        ensures columns { FractionsOf hebap result.columns.now }
+        ensures count { result.count ≡ vectors_of hebap }
+    {
+        BookColumns {
+            columns: fractions(hebap),
+            count: vectors_in(hebap),
+        }
+    }
+
+    // The distance of six numbers from vector k.
+    fn distance(self, k: usize, x: &[f32; 6]) -> f32
+        requires { k < self.count }
+        ensures { result ≡ distance_in x.now (floats self.entry.columns.now) self.entry.count k }
+    {
+        let t = self.columns;
+        let n = self.count;
+        let a = term(0.0f32, x[0], t, k);
+        let b = term(a, x[1], t, k + n);
+        let c = term(b, x[2], t, k + 2 * n);
+        let d = term(c, x[3], t, k + 3 * n);
+        let e = term(d, x[4], t, k + 4 * n);
+        term(e, x[5], t, k + 5 * n)
+    }
 }
 
 // Whether one of four is less.
@@ -176,31 +195,23 @@ fn nearer(s: Nearest, d: f32, k: usize) -> Nearest
 }
 
 // The first of the vectors nearest to x in the book of the hebap. Four at a time, which the machine does together; only
-// where one of them is nearer than all before are they compared one by one. With step_by(4) the bounds of k + 1 to k + 3
-// need what `k` brings here, said once more, so it is no plainer.
-pub fn search(hebap: u8, x: &[f32]) -> usize
-    requires le_hebap { (1 ≤ hebap) × (hebap ≤ 7) }
-    requires x_len { length x.now ≡ 6 }
+// where one of them is nearer than all before are they compared one by one. With step_by(4) the bounds of k + 1 to
+// k + 3 need what `k` brings here, said once more, so it is no plainer.
+pub fn search(hebap: u8, x: &[f32; 6]) -> usize
+    requires { (1 ≤ hebap) × (hebap ≤ 7) }
     ensures { result ≡ search_of hebap x.now }
 {
-    let t = fractions(hebap);
-    let n = vectors_in(hebap);
-    let x0 = x[0];
-    let x1 = x[1];
-    let x2 = x[2];
-    let x3 = x[3];
-    let x4 = x[4];
-    let x5 = x[5];
+    let book = BookColumns::of(hebap);
     let mut s = Nearest {
         best: 0,
         least: f32::INFINITY,
     };
     let mut k: usize = 0;
-    while k < n {
-        let a = distance(t, n, k, x0, x1, x2, x3, x4, x5);
-        let b = distance(t, n, k + 1, x0, x1, x2, x3, x4, x5);
-        let c = distance(t, n, k + 2, x0, x1, x2, x3, x4, x5);
-        let d = distance(t, n, k + 3, x0, x1, x2, x3, x4, x5);
+    while k < book.count {
+        let a = book.distance(k, x);
+        let b = book.distance(k + 1, x);
+        let c = book.distance(k + 2, x);
+        let d = book.distance(k + 3, x);
         if any_less(a, b, c, d, s.least) {
             s = nearer(
                 nearer(nearer(nearer(s, a, k), b, k + 1), c, k + 2),

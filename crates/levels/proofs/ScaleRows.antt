@@ -4,7 +4,7 @@ use mathlib.Core.Path.{◌≡◌, refl, sym, ap, ◌∙◌, subst}
 use mathlib.Core.Bool.{Bool, true, false, cond, not}
 use mathlib.Core.List.{List, [], ◌∷◌}
 use mathlib.Core.Logic.{inl, inr}
-use native.Mathlib.Nat.{eq-or-lt_of_le, add-zero}
+use native.Mathlib.Nat.{eq-or-lt_of_le}
 use native.Mathlib.Omega.{arith}
 use borrow.Author.Tests.{eqb-true}
 use lib.Dec.{T, eqb}
@@ -13,10 +13,11 @@ use lib.Ieee.{Float, binary32, of_bits, nan_bits}
 use lib.ListN.{length, get_or}
 use lib.Pow.{pow-lt}
 use lib.Signed.{mag}
+use Rattle.std.proofs.Math.Facts.{eqb_yes}
 use mir.Syntax.{w32}
 use mir.Val.{SFits}
 use Rattle.tables.specs.Tables.{mant_bits}
-use Rattle.tables.proofs.Tests.{each, each_at}
+use Rattle.tables.proofs.Tests.{each, each_at, every, every_at}
 use Rattle.tables.proofs.Rules.{mant_bits_lem}
 use Rattle.levels.specs.Exact.{slope, offset_by_sign}
 use Rattle.levels.specs.Work.{Scale, remap_of, scale_of, IsScale, row_of, scale_at, AreScales}
@@ -38,8 +39,11 @@ listed_at f f' (suc n) k j e l u =
     ]
 
 -- ---- the rows
-abbrev pub rows : List ℕ → ℕ → Scale × (Scale × Scale)
-rows t h = (scale_at t (33 * (h - 8) + 0), (scale_at t (33 * (h - 8) + 11), scale_at t (33 * (h - 8) + 22)))
+abbrev row : List (List ℕ) → ℕ → List ℕ
+row t i = get_or t i []
+
+abbrev pub rows : List (List ℕ) → ℕ → Scale × (Scale × Scale)
+rows t h = (scale_at (row t (3 * (h - 8) + 0)), (scale_at (row t (3 * (h - 8) + 1)), scale_at (row t (3 * (h - 8) + 2))))
 
 abbrev pub scales : ℕ → Scale × (Scale × Scale)
 scales h = (scale_of h 1, (scale_of h 2, scale_of h 4))
@@ -49,13 +53,13 @@ other_gain : (h g : ℕ) → eqb g 1 ≡ false → eqb g 2 ≡ false → scale_o
 unfolding scale_of remap_of
 other_gain h g e e' = rw (e, e')
 
-row_is : (t : List ℕ) → listed (rows t) 12 8 ≡ listed scales 12 8 → (h g : ℕ) → 8 ≤ h → h ≤ 19 → scale_at t (row_of h g) ≡ scale_of h g
+row_is : (t : List (List ℕ)) → listed (rows t) 12 8 ≡ listed scales 12 8 → (h g : ℕ) → 8 ≤ h → h ≤ 19 → scale_at (row t (row_of h g)) ≡ scale_of h g
 row_is t e h g l u = go (eqb g 1) refl (eqb g 2) refl
   where
     at_h : rows t h ≡ scales h
     at_h = listed_at (rows t) scales 12 8 h e l (omega arith)
 
-    go : (a : Bool) → eqb g 1 ≡ a → (b : Bool) → eqb g 2 ≡ b → scale_at t (33 * (h - 8) + cond a 0 (cond b 11 22)) ≡ scale_of h g
+    go : (a : Bool) → eqb g 1 ≡ a → (b : Bool) → eqb g 2 ≡ b → scale_at (row t (3 * (h - 8) + cond a 0 (cond b 1 2))) ≡ scale_of h g
     go true p b q = rw (eqb-true g 1 p) (ap (λ r. r.0) at_h)
     go false p true q = rw (eqb-true g 2 q) (ap (λ r. r.1.0) at_h)
     go false p false q = ap (λ r. r.1.1) at_h ∙ other_gain h g p q
@@ -67,8 +71,13 @@ no_nan : (b : Bool) → T (not b) → b ≡ false
 no_nan true t = absurd t
 no_nan false t = refl
 
-pub are_scales : (t : List ℕ) → length t ≡ 396 → T (each number t) → T (number 0) → listed (rows t) 12 8 ≡ listed scales 12 8 → AreScales t
-are_scales t w n z e = record { whole = w; numbers = λ i. no_nan _ (each_at number t n 0 z i); each = row_is t e }
+pub are_scales : (t : List (List ℕ)) → length t ≡ 36 → T (every (λ i. eqb (length (row t i)) 11) 36 0) → T (each (each number) t) → T (number 0) → listed (rows t) 12 8 ≡ listed scales 12 8 → AreScales t
+are_scales t w l n z e = record {
+  whole = w;
+  wide = λ i u. eqb_yes (every_at (λ j. eqb (length (row t j)) 11) 36 0 i l (omega arith) (omega arith));
+  numbers = λ i k. no_nan _ (each_at number (row t i) (each_at (each number) t n [] tt i) 0 z k);
+  each = row_is t e;
+}
 
 -- ---- a number's negative
 pub neg_is : (n : ℕ) → pos 0 -ℤ pos n ≡ neg_ℤ (pos n)
@@ -81,52 +90,41 @@ neg_fits n l = rw (neg_is n) (record { sfits = go n l })
     go zero u = omega arith
     go (suc k) u = omega arith
 
--- ---- places and bounds
-pub row_end : (h g : ℕ) → 8 ≤ h → h ≤ 19 → row_of h g + 11 ≤ 396
-row_end h g l u = go (eqb g 1) (eqb g 2)
-  where
-    go : (a b : Bool) → 33 * (h - 8) + cond a 0 (cond b 11 22) + 11 ≤ 396
-    go true b = omega arith
-    go false true = omega arith
-    go false false = omega arith
-
-module _ (t : List ℕ) (all : AreScales t) (h g : ℕ) (low : 8 ≤ h) (high : h ≤ 19) (i : ℕ) (place : i ≡ row_of h g) where
-  is : scale_at t i ≡ scale_of h g
-  is = rw place (all.each h g low high)
-
-  pub small_unit_fits : get_or t (i + 7) 0 < 2 ^ 31
+-- ---- what a row's numbers are bounded by
+module _ (h g : ℕ) (low : 8 ≤ h) (high : h ≤ 19) (r : List ℕ) (is : scale_at r ≡ scale_of h g) where
+  pub small_unit_fits : get_or r 7 0 < 2 ^ 31
   unfolding scale_at scale_of
   small_unit_fits =
       let m = mant_bits_lem h low high in
-      let e : get_or t (i + 7) 0 ≡ 2 ^ (31 - mant_bits h) = ap (λ (s : Scale). nat_abs s.small_unit) is in
+      let e : get_or r 7 0 ≡ 2 ^ (31 - mant_bits h) = ap (λ (s : Scale). nat_abs s.small_unit) is in
       rw e (pow-lt {j = 31} (omega arith))
 
-  pub large_unit_fits : get_or t (i + 8) 0 < 2 ^ 31
+  pub large_unit_fits : get_or r 8 0 < 2 ^ 31
   unfolding scale_at scale_of
   large_unit_fits =
       let z = pos 32768 +ℤ slope h g in
       let p = 2 ^ (cond (eqb g 2) 17 16 - mant_bits h) in
-      let e : get_or t (i + 8) 0 ≡ nat_abs (z *ℤ pos p) = ap (λ (s : Scale). nat_abs s.large_unit) is in
+      let e : get_or r 8 0 ≡ nat_abs (z *ℤ pos p) = ap (λ (s : Scale). nat_abs s.large_unit) is in
       rw (e, abs_mul z (pos p)) (unit_size h g low high)
 
-  pub up_fits : get_or t (i + 9) 0 < 2 ^ 31
+  pub up_fits : get_or r 9 0 < 2 ^ 31
   unfolding scale_at scale_of
   up_fits =
       let b = offset_by_sign h g false in
-      let e : get_or t (i + 9) 0 ≡ nat_abs (b *ℤ pos (2 ^ 15)) = ap (λ (s : Scale). nat_abs s.up) is in
+      let e : get_or r 9 0 ≡ nat_abs (b *ℤ pos (2 ^ 15)) = ap (λ (s : Scale). nat_abs s.up) is in
       rw (e, abs_mul b (pos (2 ^ 15))) (offset_size h g low high false)
 
-  pub below_fits : get_or t (i + 10) 0 < 2 ^ 31
+  pub below_fits : get_or r 10 0 < 2 ^ 31
   unfolding scale_at scale_of
   below_fits =
       let b = offset_by_sign h g true in
-      let e : get_or t (i + 10) 0 ≡ nat_abs (b *ℤ pos (2 ^ 15)) = sym (abs_neg (get_or t (i + 10) 0)) ∙ ap (λ (s : Scale). nat_abs s.below) is in
+      let e : get_or r 10 0 ≡ nat_abs (b *ℤ pos (2 ^ 15)) = sym (abs_neg (get_or r 10 0)) ∙ ap (λ (s : Scale). nat_abs s.below) is in
       rw (e, abs_mul b (pos (2 ^ 15))) (offset_size h g low high true)
 
   -- the whole from its fields
-  pub row_is_scale : (a u b x y : Float) (m n : ℕ) (j k p q : ℤ) → a ≡ of_bits binary32 (get_or t (i + 0) 0) → u ≡ of_bits binary32 (get_or t (i + 1) 0)
-      → b ≡ of_bits binary32 (get_or t (i + 2) 0) → m ≡ get_or t (i + 5) 0 → n ≡ get_or t (i + 6) 0 → x ≡ of_bits binary32 (get_or t (i + 3) 0)
-      → y ≡ of_bits binary32 (get_or t (i + 4) 0) → j ≡ pos (get_or t (i + 7) 0) → k ≡ pos (get_or t (i + 8) 0) → p ≡ pos (get_or t (i + 9) 0) → q ≡ neg_ℤ (pos (get_or t (i + 10) 0))
+  pub row_is_scale : (a u b x y : Float) (m n : ℕ) (j k p q : ℤ) → a ≡ of_bits binary32 (get_or r 0 0) → u ≡ of_bits binary32 (get_or r 1 0)
+      → b ≡ of_bits binary32 (get_or r 2 0) → m ≡ get_or r 5 0 → n ≡ get_or r 6 0 → x ≡ of_bits binary32 (get_or r 3 0)
+      → y ≡ of_bits binary32 (get_or r 4 0) → j ≡ pos (get_or r 7 0) → k ≡ pos (get_or r 8 0) → p ≡ pos (get_or r 9 0) → q ≡ neg_ℤ (pos (get_or r 10 0))
       → IsScale h g (record { a = a; up = u; below = b }) m n x y j k p q
   unfolding scale_at
-  row_is_scale a u b x y m n j k p q ea eu eb em en ex ey ej ek ep eq = rw (ea, eu, eb, em, en, ex, ey, ej, ek, ep, eq, add-zero i) is
+  row_is_scale a u b x y m n j k p q ea eu eb em en ex ey ej ek ep eq = rw (ea, eu, eb, em, en, ex, ey, ej, ek, ep, eq) is

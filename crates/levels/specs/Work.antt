@@ -1,6 +1,6 @@
 -- How values and bits of codes are found fast: no meaning of its own. The laws that join it to Codes, Exact and Value
 -- are `remap_by_lem` (proofs/Remapping.antt), those of proofs/Common.antt, and the writer's `word_bits_lem`.
-use Rattle.std.specs.Prelude.{ℕ, ◌+◌, ◌-◌, ◌*◌, ◌^◌, ◌≤◌, ◌≡◌, false, cond, List, eqb, ℤ, pos, neg_ℤ, ◌+ℤ◌, ◌*ℤ◌, length, get_or, Float}
+use Rattle.std.specs.Prelude.{ℕ, ◌+◌, ◌-◌, ◌*◌, ◌^◌, ◌<◌, ◌≤◌, ◌≡◌, false, cond, List, [], eqb, ℤ, pos, neg_ℤ, ◌+ℤ◌, ◌*ℤ◌, length, get_or, Float}
 use Rattle.std.specs.Float.{binary32}
 use Rattle.std.specs.Float.Ieee.{of_bits, nan_bits, add, mul, div, le}
 use Rattle.tables.specs.Tables.{mant_bits}
@@ -54,27 +54,28 @@ IsScale h g r s l x y i j u b =
     record { remap = r; small = s; large = l; small_part = x; large_part = y; small_unit = i; large_unit = j; up = u; below = b } ≡ scale_of h g
 
 -- ---- the same as a table: a row of eleven numbers for each hebap and gain
--- where the row of a hebap and a gain starts
+-- which row a hebap and a gain have
 abbrev pub row_of : ℕ → ℕ → ℕ
-row_of h g = 33 * (h - 8) + cond (eqb g 1) 0 (cond (eqb g 2) 11 22)
+row_of h g = 3 * (h - 8) + cond (eqb g 1) 0 (cond (eqb g 2) 1 2)
 
--- the row from the place i on: fractions by their bit patterns, b for numbers below 0 by its size
-unfoldable pub scale_at : List ℕ → ℕ → Scale
-scale_at t i =
+-- a row: fractions by their bit patterns, b for numbers below 0 by its size
+unfoldable pub scale_at : List ℕ → Scale
+scale_at r =
     record {
-      remap = record { a = of_bits binary32 (get_or t i 0); up = of_bits binary32 (get_or t (i + 1) 0); below = of_bits binary32 (get_or t (i + 2) 0) };
-      small = get_or t (i + 5) 0;
-      large = get_or t (i + 6) 0;
-      small_part = of_bits binary32 (get_or t (i + 3) 0);
-      large_part = of_bits binary32 (get_or t (i + 4) 0);
-      small_unit = pos (get_or t (i + 7) 0);
-      large_unit = pos (get_or t (i + 8) 0);
-      up = pos (get_or t (i + 9) 0);
-      below = neg_ℤ (pos (get_or t (i + 10) 0));
+      remap = record { a = of_bits binary32 (get_or r 0 0); up = of_bits binary32 (get_or r 1 0); below = of_bits binary32 (get_or r 2 0) };
+      small = get_or r 5 0;
+      large = get_or r 6 0;
+      small_part = of_bits binary32 (get_or r 3 0);
+      large_part = of_bits binary32 (get_or r 4 0);
+      small_unit = pos (get_or r 7 0);
+      large_unit = pos (get_or r 8 0);
+      up = pos (get_or r 9 0);
+      below = neg_ℤ (pos (get_or r 10 0));
     }
 
 -- every row is the scale of its hebap and gain, and no number is a NaN's bit pattern: `from_bits` asks that
-pub record AreScales (t : List ℕ) : Type 0 where
-  pub whole : length t ≡ 396
-  pub numbers : (i : ℕ) → nan_bits binary32 (get_or t i 0) ≡ false
-  pub each : (h g : ℕ) → 8 ≤ h → h ≤ 19 → scale_at t (row_of h g) ≡ scale_of h g
+pub record AreScales (t : List (List ℕ)) : Type 0 where
+  pub whole : length t ≡ 36
+  pub wide : (i : ℕ) → i < 36 → length (get_or t i []) ≡ 11
+  pub numbers : (i k : ℕ) → nan_bits binary32 (get_or (get_or t i []) k 0) ≡ false
+  pub each : (h g : ℕ) → 8 ≤ h → h ≤ 19 → scale_at (get_or t (row_of h g) []) ≡ scale_of h g

@@ -1,7 +1,7 @@
 // The levels of a scalar mantissa: its codes, and their f32 and exact values.
 #![tactic(auto)]
 
-ghost use Rattle.std.specs.Prelude.{◌≡◌, false, cond, not, ◌+◌, ◌-◌, ◌*◌, ◌<◌, ◌≤◌, ◌^◌, eqb, pos, nat_abs, ◌+ℤ◌, ◌*ℤ◌, length, get_or};
+ghost use Rattle.std.specs.Prelude.{◌≡◌, false, cond, not, ◌+◌, ◌-◌, ◌*◌, ◌<◌, ◌≤◌, ◌^◌, eqb, pos, nat_abs, ◌+ℤ◌, ◌*ℤ◌, get_or};
 ghost use Rattle.std.specs.Float.Ieee.{of_bits, nan_bits};
 ghost use Rattle.std.specs.Float.{binary32};
 ghost use Rattle.std.specs.Int.Signed.{mag};
@@ -66,7 +66,7 @@ pub fn code_bits(hebap: u8, gk: u8, code: Code) -> u32
     }
 }
 
-// Two's complement of w bits.
+// Two's complement of w bits, for which std has no method.
 fn signed_code(u: u32, w: u32) -> i32
     requires { (1 ≤ w) × (w ≤ 16) × (u < 2 ^ w) }
     ensures { result ≡ signed w u }
@@ -230,49 +230,42 @@ pub struct CodeScale {
 }
 
 // The scales of all hebaps and gains, a row each: computing a scale takes longer than reading a bin.
-fn scales() -> &'static [u32]
+pub fn scales() -> &'static [[u32; 11]; 36]
     ensures { AreScales result.now }
 {
     &consts::SCALES
 }
 
-// The number k of the row from the place i on: as it stands, as a fraction, and as a whole number.
-fn entry(t: &[u32], i: usize, k: usize) -> u32
-    requires { (k < 11) × (i + 11 ≤ length t.now) }
-    ensures { result ≡ get_or t.now (i + k) 0 }
+// The number k of a row, as a fraction and as a whole number.
+fn fraction(row: &[u32; 11], k: usize) -> f32
+    requires k_bound { k < 11 }
+    requires k_value { nan_bits binary32 (get_or row.now k 0) ≡ false }
+    ensures { result ≡ of_bits binary32 (get_or row.now k 0) }
 {
-    t[i + k]
+    f32::from_bits(row[k])
 }
 
-fn fraction(t: &[u32], i: usize, k: usize) -> f32
-    requires k_bound { (k < 11) × (i + 11 ≤ length t.now) }
-    requires k_value { nan_bits binary32 (get_or t.now (i + k) 0) ≡ false }
-    ensures { result ≡ of_bits binary32 (get_or t.now (i + k) 0) }
+fn whole(row: &[u32; 11], k: usize) -> i32
+    requires k_bound { k < 11 }
+    requires k_value { get_or row.now k 0 < 2 ^ 31 }
+    ensures { result ≡ pos (get_or row.now k 0) }
 {
-    f32::from_bits(entry(t, i, k))
+    row[k] as i32
 }
 
-fn whole(t: &[u32], i: usize, k: usize) -> i32
-    requires k_bound { (k < 11) × (i + 11 ≤ length t.now) }
-    requires k_bound_2 { get_or t.now (i + k) 0 < 2 ^ 31 }
-    ensures { result ≡ pos (get_or t.now (i + k) 0) }
-{
-    entry(t, i, k) as i32
-}
-
-// Where the row of a hebap and a gain starts.
+// Which row a hebap and a gain have.
 fn row_of(hebap: u8, gk: u8) -> usize
     requires { (8 ≤ hebap) × (hebap ≤ 19) }
     ensures { result ≡ row_of hebap gk }
 {
-    let i = 33 * (hebap as usize - 8);
+    let i = 3 * (hebap as usize - 8);
     if gk == 1 {
         return i;
     }
     if gk == 2 {
-        return i + 11;
+        return i + 1;
     }
-    i + 22
+    i + 2
 }
 
 // The scale of a hebap and a gain, out of the table.
@@ -280,24 +273,23 @@ pub fn scale_at(hebap: u8, gk: u8) -> CodeScale
     requires { (8 ≤ hebap) × (hebap ≤ 19) }
     ensures { (result.hebap ≡ hebap) × (result.gk ≡ gk) }
 {
-    let t = scales();
-    let i = row_of(hebap, gk);
+    let row = &scales()[row_of(hebap, gk)];
     CodeScale {
         hebap,
         gk,
         remap: Remap {
-            a: fraction(t, i, 0),
-            up: fraction(t, i, 1),
-            below: fraction(t, i, 2),
+            a: fraction(row, 0),
+            up: fraction(row, 1),
+            below: fraction(row, 2),
         },
-        small: entry(t, i, 5),
-        large: entry(t, i, 6),
-        small_part: fraction(t, i, 3),
-        large_part: fraction(t, i, 4),
-        small_unit: whole(t, i, 7),
-        large_unit: whole(t, i, 8),
-        up: whole(t, i, 9),
-        below: -whole(t, i, 10),
+        small: row[5],
+        large: row[6],
+        small_part: fraction(row, 3),
+        large_part: fraction(row, 4),
+        small_unit: whole(row, 7),
+        large_unit: whole(row, 8),
+        up: whole(row, 9),
+        below: -whole(row, 10),
     }
 }
 

@@ -1,7 +1,8 @@
 -- How `round_away` goes by the sign of x, `round_mag` at 2 ^ 31 and above, and how large they get. Assumes nothing.
-use Rattle.std.proofs.Common.{◌≡◌, ℕ, ◌+◌, ◌*◌, ◌^◌, ◌<◌, ◌≤◌, min, true, false, T, ℤ, pos, neg_ℤ, sym, refl, ap, true≢false, mul-pos, le-div_iff_mul-le, arith, lit<, ltb→lt, lt→ltb, ltb-false, ltb-true}
+use Rattle.std.proofs.Common.{◌≡◌, ℕ, ◌+◌, ◌*◌, ◌^◌, ◌<◌, ◌≤◌, min, true, false, T, ℤ, pos, neg_ℤ, sym, refl, ap, true≢false, mul-pos, le-div_iff_mul-le, arith, lit<, ltb→lt, ltb-false, ltb-true}
+use Rattle.std.specs.Float.{float_with_sign}
 use native.Mathlib.Nat.{div-eq_of_lt}
-use lib.Ieee.{Float, nan, inf, fin, up, down, neg, lt}
+use lib.Ieee.{Float, nan, inf, fin, up, down, lt}
 use lib.Ieee.Fits.{down_pos}
 use lib.Signed.{mag}
 use Rattle.quantiser.specs.Round.{half_up, round_mag, round_away}
@@ -29,27 +30,26 @@ mag_le nan = omega arith
 mag_le (inf s) = omega arith
 mag_le (fin s m e) = omega arith
 
-pub mag_neg : (x : Float) → round_mag (neg x) ≡ round_mag x
-unfolding round_mag neg
-mag_neg nan = refl
-mag_neg (inf s) = refl
-mag_neg (fin s m e) = refl
+-- the size of x
+abbrev pub size : Float → Float
+size x = float_with_sign false x
 
-pub neg_above : (x : Float) → lt x zero_f ≡ true → T (lt zero_f (neg x))
-unfolding lt neg
-neg_above nan h = absurd (true≢false (sym h))
-neg_above (inf true) h = tt
-neg_above (inf false) h = absurd (true≢false (sym h))
-neg_above (fin true m e) h = lt→ltb (0 * down e) (m * up e * 1) (let l : 0 < m * up e * 1 + 0 * down e = ltb-true 0 (m * up e * 1 + 0 * down e) h in omega arith)
-neg_above (fin false m e) h = absurd (let l : m * up e * 1 < 0 * down e = ltb-true (m * up e * 1) (0 * down e) h in omega arith)
+pub mag_size : (x : Float) → round_mag (size x) ≡ round_mag x
+unfolding round_mag float_with_sign
+mag_size nan = refl
+mag_size (inf s) = refl
+mag_size (fin s m e) = refl
 
-pub above_round : (x : Float) → lt zero_f x ≡ true → round_away x ≡ pos (min (round_mag x) 2147483647)
-unfolding lt round_mag round_away
-above_round nan h = absurd (true≢false (sym h))
-above_round (inf true) h = absurd (true≢false (sym h))
-above_round (inf false) h = refl
-above_round (fin true m e) h = absurd (true≢false (sym h))
-above_round (fin false m e) h = refl
+pub above_round : (x : Float) → lt zero_f (size x) ≡ true → lt x zero_f ≡ false → round_away x ≡ pos (min (round_mag x) 2147483647)
+unfolding lt round_mag round_away float_with_sign
+above_round nan h k = absurd (true≢false (sym h))
+above_round (inf true) h k = absurd (true≢false k)
+above_round (inf false) h k = refl
+above_round (fin true m e) h k =
+    let l : m * up e * 1 + 0 * down e ≤ 0 = ltb-false 0 (m * up e * 1 + 0 * down e) k in
+    let p : 0 * down e < m * up e * 1 = ltb-true (0 * down e) (m * up e * 1) h in
+    absurd (omega arith)
+above_round (fin false m e) h k = refl
 
 pub below_round : (x : Float) → lt x zero_f ≡ true → round_away x ≡ neg_ℤ (pos (round_mag x))
 unfolding lt round_mag round_away
@@ -65,13 +65,12 @@ none m e h =
     let z : half_up (m * up e) (down e) ≡ 0 = div-eq_of_lt (omega arith) in
     omega arith
 
-pub level_round : (x : Float) → lt zero_f x ≡ false → lt x zero_f ≡ false → round_away x ≡ pos 0
-unfolding lt round_mag round_away
-level_round nan h k = refl
-level_round (inf true) h k = absurd (true≢false k)
-level_round (inf false) h k = absurd (true≢false h)
-level_round (fin true m e) h k = ap (λ (n : ℕ). neg_ℤ (pos n)) (none m e (let l : m * up e * 1 + 0 * down e ≤ 0 = ltb-false 0 (m * up e * 1 + 0 * down e) k in omega arith))
-level_round (fin false m e) h k = ap (λ (n : ℕ). pos (min n 2147483647)) (none m e (let l : m * up e * 1 ≤ 0 * down e = ltb-false (0 * down e) (m * up e * 1) h in omega arith))
+pub level_round : (x : Float) → lt zero_f (size x) ≡ false → round_away x ≡ pos 0
+unfolding lt round_mag round_away float_with_sign
+level_round nan h = refl
+level_round (inf s) h = absurd (true≢false h)
+level_round (fin true m e) h = ap (λ (n : ℕ). neg_ℤ (pos n)) (none m e (let l : m * up e * 1 ≤ 0 * down e = ltb-false (0 * down e) (m * up e * 1) h in omega arith))
+level_round (fin false m e) h = ap (λ (n : ℕ). pos (min n 2147483647)) (none m e (let l : m * up e * 1 ≤ 0 * down e = ltb-false (0 * down e) (m * up e * 1) h in omega arith))
 
 pub round_small : (x : Float) → mag (round_away x) < 2 ^ 32
 unfolding round_away

@@ -11,7 +11,7 @@ pub fn power(n: u32) -> i64
     i64::from(bits::pow2(n))
 }
 
-// Two's complement of n bits.
+// Two's complement of n bits, for which std has no method.
 pub fn to_bits(v: i64, n: u32) -> u32
     requires n_bound { n ≤ 16 }
     requires v_bound { mag v < 2 ^ n }

@@ -2,7 +2,7 @@
 // are multiplied by 1 / 2^n where the Rust divides by 2^n, which is proved to give the same f32.
 #![tactic(auto)]
 
-ghost use Rattle.std.specs.Prelude.{◌≡◌, ◌-◌, ◌≤◌, length, pos, negsuc};
+ghost use Rattle.std.specs.Prelude.{◌≡◌, ◌-◌, ◌≤◌, pos, negsuc};
 ghost use Rattle.std.specs.Coded.{Coded-set};
 ghost use Rattle.std.specs.Float.{binary32};
 ghost use Rattle.std.specs.Float.Ieee.{div};
@@ -46,7 +46,8 @@ pub struct CodeLevel {
 
 // What a hebap and a gain fix, computed once for many components: the remap; n, where 2^n is full scale of the large
 // codes (at Gk 1 of all), and 1 / 2^n; the step of the estimate; the values of the levels 0 and -1; full scale and
-// the bits of the small codes, and the bits of the large ones.
+// the bits of the small codes, and the bits of the large ones. Lent to what is called for each component: a copy for
+// each of them makes quantise_bin a quarter slower.
 #[derive(Clone, Copy)]
 pub struct Steps {
     pub hebap: u8,
@@ -124,9 +125,9 @@ impl Steps {
     }
 
     // The code that is picked for x as one number, its tag with it.
-    pub fn word(self, x: f32) -> CodeWord
-        ensures bits_value { result.bits ≡ word_of (mant_bits self.hebap) self.gk (picked self.hebap self.gk x).0 }
-        ensures width_value { result.width ≡ code_bits (mant_bits self.hebap) self.gk (picked self.hebap self.gk x).0 }
+    pub fn word(&self, x: f32) -> CodeWord
+        ensures bits_value { result.bits ≡ word_of (mant_bits self.now.hebap) self.now.gk (picked self.now.hebap self.now.gk x).0 }
+        ensures width_value { result.width ≡ code_bits (mant_bits self.now.hebap) self.now.gk (picked self.now.hebap self.now.gk x).0 }
     {
         if self.gk == 1 {
             let k = self.search_one(x);
@@ -187,38 +188,50 @@ pub fn quantise_scalar(hebap: u8, gk: u8, x: f32) -> Result<CodeLevel, Refusal>
 
 // ---- a bin
 
-// The values of x, their bits and the sum of their squared errors, in order.
-fn fill(hebap: u8, gk: u8, x: &[f32], values: &mut [f32]) -> Sums
-    requires le_hebap { (8 ≤ hebap) × (hebap ≤ 19) }
-    requires x_len { (length x.now ≡ 6) × (length values.old ≡ 6) }
-    ensures { (values.new ≡ bin_values hebap gk x.now) × (result.bits ≡ codes_bits hebap gk x.now) × (result.err ≡ error_from hebap gk f0 x.now) }
-{
-    let steps = Steps::new(hebap, gk);
-    let mut bits: u32 = 0;
-    let mut err: f32 = 0.0;
-    for (j, &component) in x.iter().enumerate() {
-        let CodeLevel { code, level } = steps.pick(component);
-        let y = levels::value_of(level);
-        let d = y - component;
-        bits += levels::code_bits(hebap, gk, code);
-        err += d * d;
-        values[j] = y;
+impl Steps {
+    // How many bits a code takes, its tag with it: as levels' code_bits, by what the steps have worked out.
+    fn code_bits(&self, code: Code) -> u32
+        ensures { result ≡ code_bits (mant_bits self.now.hebap) self.now.gk code }
+    {
+        match code {
+            Code::Small(_) => self.small,
+            Code::Large(_) => {
+                if self.gk == 1 {
+                    return self.large;
+                }
+                self.small + self.large
+            }
+        }
     }
-    Sums { bits, err }
-}
 
-// A bin that is not refused.
-fn bin(hebap: u8, gk: u8, x: &[f32]) -> QuantisedBin
-    requires le_hebap { (8 ≤ hebap) × (hebap ≤ 19) }
-    requires x_len { length x.now ≡ 6 }
-    ensures { result ≡ bin_picked hebap gk x.now }
-{
-    let mut values = [0.0f32; 6];
-    let sums = fill(hebap, gk, x, &mut values);
-    QuantisedBin {
-        values,
-        bits: sums.bits,
-        err: sums.err,
+    // The values of x, their bits and the sum of their squared errors, in order.
+    fn fill(&self, x: &[f32; 6], values: &mut [f32; 6]) -> Sums
+        ensures { (values.new ≡ bin_values self.now.hebap self.now.gk x.now) × (result.bits ≡ codes_bits self.now.hebap self.now.gk x.now) × (result.err ≡ error_from self.now.hebap self.now.gk f0 x.now) }
+    {
+        let mut bits: u32 = 0;
+        let mut err: f32 = 0.0;
+        for (j, &component) in x.iter().enumerate() {
+            let CodeLevel { code, level } = self.pick(component);
+            let y = levels::value_of(level);
+            let d = y - component;
+            bits += self.code_bits(code);
+            err += d * d;
+            values[j] = y;
+        }
+        Sums { bits, err }
+    }
+
+    // A bin that is not refused.
+    fn bin(&self, x: &[f32; 6]) -> QuantisedBin
+        ensures { result ≡ bin_picked self.now.hebap self.now.gk x.now }
+    {
+        let mut values = [0.0f32; 6];
+        let sums = self.fill(x, &mut values);
+        QuantisedBin {
+            values,
+            bits: sums.bits,
+            err: sums.err,
+        }
     }
 }
 
@@ -232,5 +245,5 @@ pub fn quantise_bin(hebap: u8, gk: u8, x: &[f32; 6]) -> Result<QuantisedBin, Ref
     if levels::any_too_large(x) {
         return Err(Refusal::Component);
     }
-    Ok(bin(hebap, gk, x))
+    Ok(Steps::new(hebap, gk).bin(x))
 }

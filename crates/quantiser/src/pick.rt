@@ -17,9 +17,9 @@ pub fn is_small(b: u32, s: i64) -> bool
 
 impl Steps {
     // Gk 1: the level whose value is nearest, of the three about the estimate.
-    pub(crate) fn search_one(self, x: f32) -> i64
-        requires { self.gk ≡ 1 }
-        ensures { result ≡ best_one self.hebap self.n x }
+    pub(crate) fn search_one(&self, x: f32) -> i64
+        requires { self.now.gk ≡ 1 }
+        ensures { result ≡ best_one self.now.hebap self.now.n x }
     {
         let top = integers::power(self.n) - 1;
         let est = if self.unit > 0.0 {
@@ -45,9 +45,9 @@ impl Steps {
         }
     }
 
-    pub(crate) fn search_large(self, x: f32) -> i64
-        requires { self.gk ≢ 1 }
-        ensures { result ≡ best_large self.hebap self.gk self.n x }
+    pub(crate) fn search_large(&self, x: f32) -> i64
+        requires { self.now.gk ≢ 1 }
+        ensures { result ≡ best_large self.now.hebap self.now.gk self.now.n x }
     {
         let full = integers::power(self.n);
         let est = self.estimate_large(x);
@@ -74,8 +74,8 @@ impl Steps {
 
     // The code for x and its level.
     #[tactic(auto, using(tables::proofs::Rules::mant_bits_lem))]
-    pub(crate) fn pick(self, x: f32) -> CodeLevel
-        ensures { result ≡ code_level (picked self.hebap self.gk x) }
+    pub(crate) fn pick(&self, x: f32) -> CodeLevel
+        ensures { result ≡ code_level (picked self.now.hebap self.now.gk x) }
     {
         if self.gk == 1 {
             return self.large_code(self.search_one(x));

@@ -1,4 +1,5 @@
-// Rust's `max` of floats: std's leaves open which of two equal ones is taken.
+// Rust's `max` of floats. std's says of two that compare equal only that it gives one of them, and no law of the kit says
+// that both are the same f32 here.
 ghost use Rattle.std.specs.Prelude.{◌≡◌};
 ghost use Rattle.quantiser.specs.Quantise.{f1e_9, max_f};
 

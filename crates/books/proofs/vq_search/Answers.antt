@@ -3,7 +3,6 @@ use mathlib.Core.Path.{sym, ap, ◌∙◌}
 use Rattle.std.specs.Prelude.{Ok}
 use Rattle.books.specs.Books.{vq_search_up_to}
 use Rattle.books.proofs.Laws.{HasBook, no_book, has_book_lem}
-use borrow.Author.Rules.{rules}
 use Rattle.books.proofs.vq_search.Goals as goal
 
 pub returns-then-vectors_in-eq0 : goal.returns-then-vectors_in-eq0
@@ -23,4 +22,4 @@ returns c = let there : (HasBook c.args.hebap c.vectors_in.result) = (has_book_l
 
 pub search-requires : goal.search-requires
 search-requires c = let there : (HasBook c.args.hebap c.vectors_in.result) = (has_book_lem c.args.hebap c.vectors_in.result c.vectors_in.ensures c.if-vectors_in-eq0.false) in
-    let k = there in record { le_hebap = search rules; x_len = search rules }
+    let k = there in (k.low, k.high)

@@ -10,4 +10,4 @@ use Rattle.levels.proofs.scales.Goals as goal
 
 pub returns : goal.returns
 unfolding mant_bits mant_bits_table gaq_remap_at gaq_remap_table remap_of scale_of scale_at q15 div of_int of_bits nan_bits
-returns c = are_scales _ refl tt tt refl
+returns c = are_scales _ refl tt tt tt refl

@@ -9,11 +9,11 @@ use Rattle.quantiser.proofs.Ints.{held_is, top_is, bottom_is, top_under, bottom_
 use Rattle.quantiser.proofs.Steps.search_large.Goals as goal
 
 pub power-full-requires : goal.power-full-requires
-power-full-requires c = n_few c.args.self
+power-full-requires c = n_few c.args.self.now
 
 pub search-requires : goal.search-requires
 search-requires c =
-    let s = c.args.self in
+    let s = c.args.self.now in
     let n = s.n in
     let full = c.power-full in
     let few = n_few s in
@@ -27,9 +27,9 @@ search-requires c =
 pub returns : goal.returns
 unfolding best_large
 returns c =
-    let n = c.args.self.n in
+    let n = c.args.self.now.n in
     let full = c.power-full in
-    let few = n_few c.args.self in
+    let few = n_few c.args.self.now in
     let k = c.estimate_large-est in
     held_is c.search.result c.search.type_inv
     (rw (bottom_is n full.result few full.ensures, top_is n full.result few full.ensures, held_is k.result k.type_inv k.ensures) at c.search.ensures)

@@ -19,9 +19,9 @@ unfolding est_one
 est_one_lem h n x unit r e c = rw (← e) (chosen (λ t. cond t (round_away (div binary32 x unit)) (pos 0)) (lt f0 unit) r c)
 
 -- the estimate, whichever way the test went
-est_is : (c : Joined-self) → to_z w64 c.if-self.est-bits ≡ est_one c.args.self.hebap c.args.self.n c.args.x
+est_is : (c : Joined-self) → to_z w64 c.if-self.est-bits ≡ est_one c.args.self.now.hebap c.args.self.now.n c.args.x
 est_is c =
-    let st = c.args.self in
+    let st = c.args.self.now in
     est_one_lem st.hebap st.n c.args.x st.unit (to_z w64 c.if-self.est-bits) ((fixed st).unit_one c.requires)
     (elim c.if-self.branch [
       | then-self h ↦ inl (h.if-self.true, ap (to_z w64) h.est-is-bits ∙ held_is h.round_half_away-est.result h.round_half_away-est.type_inv h.round_half_away-est.ensures)
@@ -29,23 +29,23 @@ est_is c =
     ])
 
 pub power-top-requires : goal.power-top-requires
-power-top-requires c = n_few c.args.self
+power-top-requires c = n_few c.args.self.now
 
 pub search-requires : goal.search-requires
 search-requires c =
-    let n = c.args.self.n in
+    let n = c.args.self.now.n in
     let full = c.power-top.result in
-    let few = n_few c.args.self in
+    let few = n_few c.args.self.now in
     let p = pow_pos n in
     let t = pow2_cap n few in
     rw (opposite_is n full few c.power-top.ensures, top_is n full few c.power-top.ensures, est_is (goal.at.search-requires c).Joined-self)
-    (omega (arith, ints), omega (arith, opposite_under n), omega (arith, top_under n), lit< tt, est_one_small c.args.self.hebap n c.args.x)
+    (omega (arith, ints), omega (arith, opposite_under n), omega (arith, top_under n), lit< tt, est_one_small c.args.self.now.hebap n c.args.x)
 
 pub returns : goal.returns
 unfolding best_one
 returns c =
-    let n = c.args.self.n in
+    let n = c.args.self.now.n in
     let full = c.power-top.result in
-    let few = n_few c.args.self in
+    let few = n_few c.args.self.now in
     held_is c.search.result c.search.type_inv
     (simp c.requires at (rw (est_is (goal.at.returns c).Joined-self, opposite_is n full few c.power-top.ensures, top_is n full few c.power-top.ensures) at c.search.ensures))

@@ -1,6 +1,6 @@
--- `quantiser::bin` meets its contract. Assumes nothing.
+-- `quantiser::Steps::bin` meets its contract. Assumes nothing.
 use Rattle.quantiser.specs.Quantise.{bin_picked}
-use Rattle.quantiser.proofs.bin.Goals as goal
+use Rattle.quantiser.proofs.Steps.bin.Goals as goal
 
 pub returns : goal.returns
 unfolding bin_picked
