@@ -132,6 +132,7 @@ pub fn fill_gaqbin(hebap: &[u8], gaqmod: u8, gaqbin: &mut [i8]) -> Result<usize,
         return Err(Refusal::OutOfRange);
     }
     let mut active: usize = 0;
+    // By index: after a zip with iter_mut a proof would know how many marks there are, and none of them.
     for i in 0..hebap.len().min(gaqbin.len()) {
         let m = mark(gaqmod, hebap[i]);
         gaqbin[i] = m;

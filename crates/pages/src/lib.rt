@@ -13,7 +13,8 @@ use channel::bins::Bins;
 use planner::Plan;
 use planner::vectors::BinVectors;
 
-// What is shown of a bin; gk is 0 where the bin isn't active.
+// What is shown of a bin; gk is 0 where the bin isn't active, for which a dash is printed: made and tested in one place
+// each, so an Option is no plainer.
 #[derive(Clone, Copy)]
 pub struct Cell {
     pub bin: u32,
@@ -30,7 +31,7 @@ const DASH: u8 = 45;
 
 const ZERO: u8 = 48;
 
-// Lines of 64 spaces.
+// Lines of 64 spaces. By index: after chunks_exact_mut a proof would know how long the lines are, and nothing in them.
 fn put_blank(out: &mut [u8], lines: usize)
     requires { 65 * lines ≤ length out.old }
     ensures { out.new ≡ splice out.old 0 (blank_lines lines) }
@@ -42,7 +43,7 @@ fn put_blank(out: &mut [u8], lines: usize)
     }
 }
 
-// A number right-aligned in all places.
+// A number right-aligned in all places, by hand as in plantext.
 fn put_number(out: &mut [u8], n: u32)
     ensures { out.new ≡ aligned (length out.old) n }
 {

@@ -4,6 +4,7 @@ use mathlib.Core.Bool.{Bool, true, false, not, cond}
 use mathlib.Core.List.{List}
 use Prim.Native.Nat.{ℕ, zero, suc, ◌+◌, ◌-◌, ◌*◌, ◌/◌, ◌^◌, ◌≤◌, ◌<◌}
 use native.Mathlib.Nat.{le_trans, le_of_eq, le_antisymm, suc-mul, add-mul, mul-le-mul_right}
+use native.Mathlib.Numerals.{add-one}
 use native.Mathlib.Omega.{arith}
 use borrow.Author.Tests.{lt-ltb, le-ltb, ne_eqb, eqb-true, leb-false}
 use lib.Dec.{T, leb, eqb}
@@ -162,20 +163,25 @@ take_next cost g k a b p q l = sym (rw (lt-ltb (cost k) (cost g) (omega arith)))
 pub keep_first : (cost : ℕ → ℕ) (g k a b : ℕ) → a ≡ cost k → b ≡ cost g → b ≤ a → g ≡ cheaper cost g k
 keep_first cost g k a b p q l = sym (rw (le-ltb (cost k) (cost g) (omega arith)))
 
+-- the least of one mode more
+module _ (cost : ℕ → ℕ) (n g a b : ℕ) (eg : g ≡ least_up_to cost n) (ea : a ≡ cost (n + 1)) (eb : b ≡ cost g) where
+  one_more_lem : cheaper cost g (n + 1) ≡ least_up_to cost (n + 1)
+  unfolding least_up_to
+  one_more_lem = ap (λ (z : ℕ). cheaper cost z (n + 1)) eg ∙ ap (cheaper cost (least_up_to cost n)) (add-one n) ∙ sym (ap (least_up_to cost) (add-one n))
+
 -- the least of the modes to m, from that of the modes below
 module _ (cost : ℕ → ℕ) (m g a b : ℕ) (low : g < m) (eg : g ≡ least_up_to cost (m - 1)) (ea : a ≡ cost m) (eb : b ≡ cost g) where
-  one_more_lem : cheaper cost g m ≡ least_up_to cost (m + 1 - 1)
-  unfolding least_up_to
-  one_more_lem =
-      let n : m ≡ suc (m - 1) = omega arith in
-      let k : m + 1 - 1 ≡ suc (m - 1) = omega arith in
-      ap (λ (z : ℕ). cheaper cost z m) eg ∙ ap (cheaper cost (least_up_to cost (m - 1))) n ∙ sym (ap (least_up_to cost) k)
+  next_mode : cheaper cost g m ≡ least_up_to cost (m + 1 - 1)
+  next_mode =
+      let n : m ≡ m - 1 + 1 = omega arith in
+      let k : m + 1 - 1 ≡ m - 1 + 1 = omega arith in
+      ap (cheaper cost g) n ∙ one_more_lem cost (m - 1) g a b eg (ea ∙ ap cost n) eb ∙ sym (ap (least_up_to cost) k)
 
   pub least_taken : a < b → (m < m + 1) × (m ≡ least_up_to cost (m + 1 - 1))
-  least_taken l = (omega arith, take_next cost g m a b ea eb l ∙ one_more_lem)
+  least_taken l = (omega arith, take_next cost g m a b ea eb l ∙ next_mode)
 
   pub least_kept : b ≤ a → (g < m + 1) × (g ≡ least_up_to cost (m + 1 - 1))
-  least_kept l = (omega arith, keep_first cost g m a b ea eb l ∙ one_more_lem)
+  least_kept l = (omega arith, keep_first cost g m a b ea eb l ∙ next_mode)
 
 pub gain_1 : (mode g : ℕ) (c : Costs) → mode ≡ 1 → g ≡ cheaper (cost_in c) 1 2 → g ≡ gain_in mode c
 unfolding gain_in cheapest other_gains

@@ -60,7 +60,8 @@ fn size(x: f32) -> f32
 }
 
 // Six codes of the bits small, and large more behind each tag. How many take the tag is counted, which the machine does
-// for several together.
+// for several together. The six are lent as a slice, here and below: of an array a proof does not get that each is an
+// f32.
 #[tactic(auto, using(crate::proofs::Steps::tagged_most, crate::proofs::Steps::product_most, channel::proofs::Over::one_small))]
 fn tagged_bits(x: &[f32], limit: f32, small: u32, large: u32) -> u32
     requires six { length x.now ≡ 6 }

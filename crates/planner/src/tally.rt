@@ -57,9 +57,8 @@ fn tally_bin(hebap: u8, c: Costs, tallies: &mut [Tally; 4])
     requires { AllSmall tallies.old }
     ensures { (m : ℕ) → m ≤ 3 → tally_at tallies.new m ≡ with_bin m hebap c (tally_at tallies.old m) }
 {
-    for mode in 0..4 {
-        let tally = &mut tallies[mode as usize];
-        tally.add(mode, hebap, c);
+    for (mode, tally) in tallies.iter_mut().enumerate() {
+        tally.add(mode as u8, hebap, c);
     }
 }
 
@@ -84,7 +83,7 @@ pub fn tally_bins(v: BinVectors, tallies: &mut [Tally; 4]) -> u32
     plain
 }
 
-// The mode of least payload, the lowest of equals.
+// The mode of least payload, the lowest of equals. By the mode, since a turn reads two tallies: its own and the best.
 pub fn best_mode(plain: u32, tallies: &[Tally; 4]) -> u8
     requires { AllFew plain tallies.now }
     ensures { result ≡ least_up_to (payload_at plain tallies.now) 3 }

@@ -8,7 +8,8 @@ ghost use Rattle.plantext.specs.Work.{Puts};
 
 use planner::Plan;
 
-// The output, and the place that the next byte goes to.
+// The output, and the place that the next byte goes to. Digits are put by hand, since there is no heap and the contracts
+// say each byte, which std's printing does not let a proof do.
 #[derive(Drop)]
 struct Printer<'a> {
     out: &'a mut [u8],
@@ -179,7 +180,8 @@ pub fn print_plan(out: &mut [u8], plan: Plan, field: &[u8]) -> usize
     printer.at
 }
 
-// The refusal's text goes to the front of the output; answers how many bytes it has.
+// The refusal's text goes to the front of the output; answers how many bytes it has. Any number is printed: a `Refusal`
+// would ask callers more.
 pub fn print_refused(out: &mut [u8], n: u8) -> usize
     requires { 32768 ≤ length out.old }
     ensures value { result ≡ length (refused_text n) }

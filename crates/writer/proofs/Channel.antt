@@ -5,7 +5,7 @@ use mathlib.Core.List.{List, [], ◌∷◌}
 use mathlib.Core.Bool.{Bool, true, false, cond}
 use native.Mathlib.Nat.{le_trans, le_of_eq}
 use native.Mathlib.Omega.{arith}
-use lib.ListN.{length, get_or, take, drop, replicate, length-append, length-drop}
+use lib.ListN.{length, get_or, drop, replicate, length-append, length-drop}
 use lib.Seq.{length-take-le}
 use lib.Dec.{leb, eqb}
 use lib.Ieee.{Float}
@@ -76,10 +76,6 @@ bin_bits_lem mode h y v u six = rw (le-leb h 19 u) (go (eqb h 0) (leb h 7) refl 
 
 pub six_long : (x : List Float) (k : ℕ) → 6 * k + 6 ≤ length x → length (six_of x k) ≡ 6
 six_long x k l = length-take-le 6 (drop (6 * k) x) (rw length-drop (omega arith))
-
--- the components 6 k to 6 k + 5, as the code lends them
-pub part_six : (x : List Float) (k : ℕ) → take (6 * k + 6 - 6 * k) (drop (6 * k) x) ≡ six_of x k
-part_six x k = let e : 6 * k + 6 - 6 * k ≡ 6 = omega arith in ap (λ (n : ℕ). take n (drop (6 * k) x)) e
 
 pub six_fine : (row : List ℕ) (x : List Float) (k : ℕ) → too_large_at row x k ≡ false → 1 ≤ get_or row k 0 → some_too_large (six_of x k) ≡ false
 unfolding beyond_at

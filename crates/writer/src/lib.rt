@@ -13,6 +13,7 @@ use bits::BitPos;
 use channel::bins::Bins;
 use gains::Coding;
 use planner::Plan;
+use planner::vectors::BinVectors;
 use quantiser::Steps;
 
 // The output, and the position that the next bit goes to.
@@ -81,13 +82,10 @@ impl<'a> FieldWriter<'a> {
     }
 
     // The quantiser's codes for the six components of a bin.
-    fn write_six(&mut self, hebap: u8, gk: u8, x: &[f32])
-        requires le_hebap { (8 ≤ hebap) × (hebap ≤ 19) }
-        requires x_len { length x.now ≡ 6 }
-        requires room { Room (bin_enc (scalar hebap gk) x.now) self.old }
-        ensures { Puts (bin_enc (scalar hebap gk) x.now) self.old self.new }
+    fn write_six(&mut self, steps: Steps, x: &[f32; 6])
+        requires { Room (bin_enc (scalar steps.hebap steps.gk) x.now) self.old }
+        ensures { Puts (bin_enc (scalar steps.hebap steps.gk) x.now) self.old self.new }
     {
-        let steps = Steps::new(hebap, gk);
         for &component in x {
             let w = steps.word(component);
             self.put(w.bits, w.width);
@@ -116,9 +114,8 @@ impl<'a> FieldWriter<'a> {
     }
 
     // The index that the search picks for a bin.
-    fn write_index(&mut self, hebap: u8, x: &[f32])
+    fn write_index(&mut self, hebap: u8, x: &[f32; 6])
         requires le_hebap { (1 ≤ hebap) × (hebap ≤ 7) }
-        requires x_len { length x.now ≡ 6 }
         requires room { Room (bin_enc (book hebap) x.now) self.old }
         ensures { Puts (bin_enc (book hebap) x.now) self.old self.new }
     {
@@ -127,17 +124,16 @@ impl<'a> FieldWriter<'a> {
     }
 
     // What stands in the field for a bin.
-    fn write_bin(&mut self, mode: u8, hebap: u8, gk: u8, x: &[f32])
+    fn write_bin(&mut self, mode: u8, hebap: u8, gk: u8, x: &[f32; 6])
         requires hebap_bound { hebap ≤ 19 }
-        requires x_len { length x.now ≡ 6 }
         requires room { Room (bin_enc (bin_of mode hebap gk) x.now) self.old }
         ensures { Puts (bin_enc (bin_of mode hebap gk) x.now) self.old self.new }
     {
         match gains::coding_of(mode, hebap) {
             Coding::Nothing => {}
             Coding::Book => self.write_index(hebap, x),
-            Coding::Fixed => self.write_six(hebap, 1, x),
-            Coding::Adaptive => self.write_six(hebap, gk, x),
+            Coding::Fixed => self.write_six(Steps::new(hebap, 1), x),
+            Coding::Adaptive => self.write_six(Steps::new(hebap, gk), x),
         }
     }
 
@@ -155,30 +151,27 @@ impl<'a> FieldWriter<'a> {
     }
 
     // What stands in the field for the bins of a row.
-    fn write_bins(&mut self, mode: u8, gains: &[u8], bins: Bins, x: &[f32])
-        requires end_in_bounds { 6 * bins.end ≤ length x.now }
-        requires room { Room (bins_enc mode gains.now bins x.now bins.start) self.old }
-        ensures { Puts (bins_enc mode gains.now bins.entry x.now bins.entry.start) self.old self.new }
+    fn write_bins(&mut self, mode: u8, gains: &[u8], v: BinVectors)
+        requires { Room (bins_enc mode gains.now v.bins v.x.now v.bins.start) self.old }
+        ensures { Puts (bins_enc mode gains.now v.entry.bins v.entry.x.now v.entry.bins.start) self.old self.new }
     {
         let mut n: usize = 0;
-        for bin in bins.start..bins.end {
-            let hebap = bins.hebap(bin);
-            let a = 6 * bin;
-            self.write_bin(mode, hebap, channel::gain_at(gains, n), &x[a..a + 6]);
+        for bin in v.bins.start..v.bins.end {
+            let hebap = v.bins.hebap(bin);
+            self.write_bin(mode, hebap, channel::gain_at(gains, n), v.six(bin));
             n += channel::gains_used(mode, hebap);
         }
     }
 
     // The field of a choice.
-    fn write_field(&mut self, mode: u8, gains: &[u8], bins: Bins, x: &[f32])
-        requires end_in_bounds { 6 * bins.end ≤ length x.now }
-        requires choice { Choice mode gains.now bins.row.now bins.start bins.end }
-        requires room { Room (choice_enc mode gains.now bins x.now) self.old }
-        ensures { Puts (choice_enc mode gains.now bins.entry x.now) self.old self.new }
+    fn write_field(&mut self, mode: u8, gains: &[u8], v: BinVectors)
+        requires choice { Choice mode gains.now v.bins.row.now v.bins.start v.bins.end }
+        requires room { Room (choice_enc mode gains.now v.bins v.x.now) self.old }
+        ensures { Puts (choice_enc mode gains.now v.entry.bins v.entry.x.now) self.old self.new }
     {
         self.put(mode as u32, 2);
         self.write_gains(mode, gains);
-        self.write_bins(mode, gains, bins, x)
+        self.write_bins(mode, gains, v)
     }
 }
 
@@ -207,6 +200,6 @@ pub fn write_aht_channel(
         start,
         end,
     };
-    writer.write_field(plan.mode, gains, bins, x);
+    writer.write_field(plan.mode, gains, BinVectors { bins, x });
     Ok(writer.pos)
 }

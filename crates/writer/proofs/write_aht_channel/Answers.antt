@@ -63,12 +63,15 @@ pub invariant_of-bins : goal.invariant_of-bins
 invariant_of-bins c = let r = (fit (goal.at.invariant_of-bins c).In_ok-check_plan).within.row_ok in
     record { ordered = r.ordered; few = r.few; rows = r.rows; known = r.known }
 
+pub invariant_of-write_field : goal.invariant_of-write_field
+invariant_of-write_field c = record { vectors = (fit (goal.at.invariant_of-write_field c).In_ok-check_plan).within.vectors }
+
 pub write_field-requires : goal.write_field-requires
 write_field-requires c =
     let d = goal.at.write_field-requires c in
     let f = fit d.In_ok-check_plan in
     let w = c.new-writer.ensures in
-    record { end_in_bounds = f.within.vectors; choice = f.choice; room = rw (w.place, w.bytes) (omega (arith, long d.In_ok-check_plan, room d.Else-not-has_bits)) }
+    record { choice = f.choice; room = rw (w.place, w.bytes) (omega (arith, long d.In_ok-check_plan, room d.Else-not-has_bits)) }
 
 pub returns : goal.returns
 returns c =

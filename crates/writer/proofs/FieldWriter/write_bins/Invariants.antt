@@ -6,4 +6,4 @@ use Rattle.writer.proofs.Turns.{Left}
 use Rattle.writer.proofs.FieldWriter.write_bins.Given as goal
 
 abbrev pub invariant-loop-bin : goal.invariant-loop-bin
-invariant-loop-bin l = (l.n ≡ active_count l.mode l.bins.row.now l.bins.start l.bin) × Left l.initial.self l.self (bins_enc l.mode l.gains l.bins l.x l.bin) (bins_enc l.mode l.gains l.bins l.x l.bins.start)
+invariant-loop-bin l = (l.n ≡ active_count l.mode l.v.bins.row.now l.v.bins.start l.bin) × Left l.initial.self l.self (bins_enc l.mode l.gains l.v.bins l.v.x.now l.bin) (bins_enc l.mode l.gains l.v.bins l.v.x.now l.v.bins.start)

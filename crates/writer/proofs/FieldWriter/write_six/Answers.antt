@@ -19,45 +19,38 @@ use Rattle.writer.proofs.FieldWriter.write_six.Goals.{After-word-w}
 pub loop-component-init : goal.loop-component-init
 loop-component-init c = left_all c.args.self.now _
 
--- the word that was made is that of the quantiser's code
-word_is : (c : After-word-w) → let a = c.args in
-    let code = (picked a.hebap a.gk (get_or a.x.now c.loop-component.component-index nan)).0 in
-    (c.word-w.result.bits ≡ word_of (mant_bits a.hebap) a.gk code) × (c.word-w.result.width ≡ code_bits (mant_bits a.hebap) a.gk code)
-word_is c =
-    let n = c.new-steps.ensures in
-    let e = rw (n.0, n.1) at c.word-w.ensures in
-    (e.bits_value, e.width_value)
-
--- and stands before the codes that are left
+-- the word that was made stands before the codes that are left
 next_word : (c : After-word-w) → let a = c.args in
-    Next (codes_for a.hebap a.gk (drop c.loop-component.component-index a.x.now)) (bits_n c.word-w.result.width c.word-w.result.bits)
-    (codes_for a.hebap a.gk (drop (c.loop-component.component-index + 1) a.x.now))
+    Next (codes_for a.steps.hebap a.steps.gk (drop c.loop-component.component-index a.x.now)) (bits_n c.word-w.result.width c.word-w.result.bits)
+    (codes_for a.steps.hebap a.steps.gk (drop (c.loop-component.component-index + 1) a.x.now))
 next_word c =
-    let a = c.args in
-    let y = get_or a.x.now c.loop-component.component-index nan in
-    let code = (picked a.hebap a.gk y).0 in
-    let rest = codes_for a.hebap a.gk (drop (c.loop-component.component-index + 1) a.x.now) in
-    let e : bits_n c.word-w.result.width c.word-w.result.bits ≡ bits_n (code_bits (mant_bits a.hebap) a.gk code) (word_of (mant_bits a.hebap) a.gk code) =
-    rw ((word_is c).0, (word_is c).1) in
+    let x = c.args.x.now in
+    let h = c.args.steps.hebap in
+    let g = c.args.steps.gk in
+    let r = c.args.steps.in_range in
+    let y = get_or x c.loop-component.component-index nan in
+    let code = (picked h g y).0 in
+    let rest = codes_for h g (drop (c.loop-component.component-index + 1) x) in
+    let w = c.word-w.ensures in
+    let e : bits_n c.word-w.result.width c.word-w.result.bits ≡ bits_n (code_bits (mant_bits h) g code) (word_of (mant_bits h) g code) = rw (w.bits_value, w.width_value) in
     record {
       is =
-          codes_next a.hebap a.gk a.x.now c.loop-component.component-index c.loop-component-test.true
-          ∙ ap (λ (bs : List Bool). bs ++ rest) (word_bits_lem a.hebap a.gk code (picked_accepted a.hebap a.gk y c.requires.le_hebap.0 c.requires.le_hebap.1) ∙ sym e);
+          codes_next h g x c.loop-component.component-index (rw c.told-x c.loop-component-test.true)
+          ∙ ap (λ (bs : List Bool). bs ++ rest) (word_bits_lem h g code (picked_accepted h g y r.0 r.1) ∙ sym e);
     }
 
 pub put-requires : goal.put-requires
 put-requires c =
-    let a = c.args in
-    let w = (goal.at.put-requires c).After-word-w in
+    let s = c.args.steps in
     record {
-      n_bound = rw (word_is w).1 (word_width a.hebap a.gk (picked a.hebap a.gk (get_or a.x.now c.loop-component.component-index nan)).0 c.requires.le_hebap.0 c.requires.le_hebap.1);
-      room = left_room c.loop-component.invariant (next_word w) (rw c.requires.x_len c.requires.room);
+      n_bound = rw c.word-w.ensures.width_value (word_width s.hebap s.gk (picked s.hebap s.gk (get_or c.args.x.now c.loop-component.component-index nan)).0 s.in_range.0 s.in_range.1);
+      room = left_room c.loop-component.invariant (next_word (goal.at.put-requires c).After-word-w) (rw c.told-x c.requires);
     }
 
 pub loop-component-preserved : goal.loop-component-preserved
 loop-component-preserved c =
-    left_next c.loop-component.invariant (next_word (goal.at.loop-component-preserved c).After-word-w) (rw c.requires.x_len c.requires.room) _ c.put.ensures
+    left_next c.loop-component.invariant (next_word (goal.at.loop-component-preserved c).After-word-w) (rw c.told-x c.requires) _ c.put.ensures
 
 pub returns : goal.returns
-returns c = let a = c.args in
-    rw c.requires.x_len at (left_none c.loop-component.invariant (codes_end a.hebap a.gk a.x.now c.loop-component.component-index c.loop-component-test.false))
+returns c = let s = c.args.steps in
+    rw c.told-x at (left_none c.loop-component.invariant (codes_end s.hebap s.gk c.args.x.now c.loop-component.component-index (rw c.told-x c.loop-component-test.false)))

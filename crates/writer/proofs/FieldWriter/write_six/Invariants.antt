@@ -5,4 +5,4 @@ use Rattle.writer.proofs.Words.{codes_for}
 use Rattle.writer.proofs.FieldWriter.write_six.Given as goal
 
 abbrev pub invariant-loop-component : goal.invariant-loop-component
-invariant-loop-component l = Left l.initial.self l.self (codes_for l.hebap l.gk (drop l.component-index l.x)) (codes_for l.hebap l.gk l.x)
+invariant-loop-component l = Left l.initial.self l.self (codes_for l.steps.hebap l.steps.gk (drop l.component-index l.x)) (codes_for l.steps.hebap l.steps.gk l.x)
