@@ -1,93 +1,82 @@
 -- The loops that read gain words: what is known before each turn, and what a turn does. Assumes nothing.
-use Prim.Native.Nat.{ℕ, zero, suc, ◌+◌, ◌-◌, ◌*◌, ◌^◌, ◌≤◌, ◌<◌, min}
+use Prim.Native.Nat.{ℕ, zero, suc, ◌+◌, ◌-◌, ◌≤◌, ◌<◌, min}
 use mathlib.Core.Path.{◌≡◌, refl, sym, ap, ◌∙◌}
 use mathlib.Core.Bool.{Bool, true, false, cond, not}
 use mathlib.Core.List.{List, [], ◌∷◌, ◌++◌, append_assoc, append-nil}
 use native.Mathlib.Nat.{zero-add}
 use native.Mathlib.Omega.{arith}
-use lib.ListN.{length, take, drop, set, replicate, length-append, length-take}
+use lib.ListN.{length, take, set, replicate, length-append, length-take}
 use lib.Seq.{take_all}
 use borrow.Author.Tests.{le-leb, lt-leb, ne_eqb}
-use Rattle.bits.specs.Bits.{bits_of, bit_at, splice, Inside}
+use Rattle.bits.specs.Bits.{splice}
+use Rattle.bits.specs.Takes.{ahead, Takes}
+use Rattle.bits.specs.declared.field_reader.FieldReader.{FieldReader}
+use Rattle.bits.proofs.Taking.{takes_got, takes_refused}
 use Rattle.bits.specs.Format.{Got, got, refused, and_then, Format, number, each_dec}
 use Rattle.bits.specs.Work.{resume}
-use Rattle.bits.specs.declared.BitPos.{BitPos}
 use Rattle.bits.proofs.Laws.{splice_none, splice_one, splice_more, length_splice}
 use Rattle.bits.proofs.Copying.{put_next}
-use Rattle.bits.proofs.Lawful.{number_lawful, resume_none, resume_next, resume_stop}
-use Rattle.bits.proofs.Reading.{pos_is}
+use Rattle.bits.proofs.Lawful.{resume_none, resume_next, resume_stop}
 use Rattle.gains.specs.Gains.{gain_value}
 use Rattle.channel.specs.Field.{gain_bit, grpgain, first, second, third, one_gain, two_gains, group_words, gain_words}
 use Rattle.channel.proofs.Laws.{by_mode}
-use Rattle.std.specs.Prelude.{Result, Ok, Err}
+use Rattle.std.specs.Prelude.{Ok, Err}
 use Rattle.answers.specs.declared.Refusal.{Refusal}
 use Rattle.answers.specs.declared.Refusal.TheVariants.{GroupWord, UnusedCode}
-use Rattle.bits.specs.Format.{move_answer}
-use Rattle.reader.specs.Work.{Reads, GainsPut, missing_code, three_gains}
+use Rattle.reader.specs.Work.{GainsPut, missing_code, three_gains}
 
 -- what is read after xs and ys
 resume_both : {A : Type 0} (xs ys : List A) (g : Got (List A)) → resume xs (resume ys g) ≡ resume (xs ++ ys) g
 resume_both xs ys (got zs rest) = rw append_assoc
 resume_both xs ys (refused k) = refl
 
-pub number_below : (n : ℕ) (bs rest : List Bool) (v : ℕ) → (number n).dec bs ≡ got v rest → v < 2 ^ n
-unfolding number
-number_below n bs rest v e = ((number_lawful n).sole bs rest v e).1
-
 -- ---- a loop over words: F n is the format of n gains
-module _ (F : ℕ → Format (List ℕ)) (n : ℕ) (s : List ℕ) (start : ℕ) (out : List ℕ) where
-  -- the gains read so far, and where they and the rest stand
-  pub record SoFar (p : BitPos) (i : ℕ) (out' : List ℕ) : Type 0 where
+module _ (F : ℕ → Format (List ℕ)) (n : ℕ) (before : List Bool) (out : List ℕ) where
+  -- the gains read so far, and the bits that are left
+  pub record SoFar (left : List Bool) (i : ℕ) (out' : List ℕ) : Type 0 where
     pub gs : List ℕ
     pub count : length gs ≡ min i n
-    pub inside : Inside (8 * length s) p
-    pub rest : (F n).dec (drop start (bits_of s)) ≡ resume gs ((F (n - i)).dec (drop (bit_at p) (bits_of s)))
+    pub rest : (F n).dec before ≡ resume gs ((F (n - i)).dec left)
     pub gains : out' ≡ splice out 0 gs
     pub long : length out' ≡ length out
 
-  -- an answer and the output afterwards
-  abbrev pub Answered : Result BitPos Refusal → List ℕ → Type 0
-  Answered r out' = Reads (move_answer (8 * length s)) ((F n).dec (drop start (bits_of s))) r (GainsPut out out')
-
-  pub none_yet : (p : BitPos) → bit_at p ≡ start → Inside (8 * length s) p → SoFar p 0 out
-  none_yet p e i =
+  pub none_yet : SoFar before 0 out
+  none_yet =
       let z : n - 0 ≡ n = omega arith in
       record {
         gs = [];
         count = omega arith;
-        inside = i;
-        rest = rw (e, z) (sym (resume_none _));
+        rest = rw z (sym (resume_none _));
         gains = sym (splice_none out 0);
         long = refl;
       }
 
-module _ {F : ℕ → Format (List ℕ)} {n : ℕ} {s : List ℕ} {start : ℕ} {out : List ℕ} {p : BitPos} {i : ℕ} {out' : List ℕ} (f : SoFar F n s start out p i out') where
+module _ {F : ℕ → Format (List ℕ)} {n : ℕ} {before : List Bool} {out : List ℕ} {left : List Bool} {i : ℕ} {out' : List ℕ} (f : SoFar F n before out left i out') where
   -- a word of j gains, or of as many as are left
-  pub word_more : (q : BitPos) (j : ℕ) (out'' xs : List ℕ) → i < n → n ≤ length out → Inside (8 * length s) q → length xs ≡ min j (n - i)
-      → (F (n - i)).dec (drop (bit_at p) (bits_of s)) ≡ resume xs ((F (n - i - j)).dec (drop (bit_at q) (bits_of s))) → out'' ≡ splice out' i xs → SoFar F n s start out q (i + j) out''
-  word_more q j out'' xs less room h k e o =
+  pub word_more : (q : FieldReader) (j : ℕ) (out'' xs : List ℕ) → i < n → n ≤ length out → length xs ≡ min j (n - i)
+      → (F (n - i)).dec left ≡ resume xs ((F (n - i - j)).dec (ahead q)) → out'' ≡ splice out' i xs → SoFar F n before out (ahead q) (i + j) out''
+  word_more q j out'' xs less room k e o =
       let c = f.count in
       let l = f.long in
       let i-is : i ≡ 0 + length f.gs = omega arith in
-      let left : n - i - j ≡ n - (i + j) = omega arith in
+      let less' : n - i - j ≡ n - (i + j) = omega arith in
       record {
         gs = f.gs ++ xs;
         count = length-append f.gs xs ∙ omega arith;
-        inside = h;
-        rest = f.rest ∙ ap (resume f.gs) e ∙ resume_both f.gs xs ((F (n - i - j)).dec (drop (bit_at q) (bits_of s))) ∙ rw left;
+        rest = f.rest ∙ ap (resume f.gs) e ∙ resume_both f.gs xs ((F (n - i - j)).dec (ahead q)) ∙ rw less';
         gains = o ∙ rw (i-is, f.gains) (splice_more out f.gs xs 0 (omega arith));
         long = ap length o ∙ length_splice out' xs i (omega arith) ∙ l;
       }
 
-  pub word_refused : (k : Refusal) → (F (n - i)).dec (drop (bit_at p) (bits_of s)) ≡ refused k → Answered F n s start out (Err k) out'
-  word_refused k e = let w : (F n).dec (drop start (bits_of s)) ≡ refused k = f.rest ∙ ap (resume f.gs) e in rw w (record { is = refl; left = tt })
+  module _ (first q : FieldReader) (out'' : List ℕ) where
+    pub word_refused : (k : Refusal) → (F (n - i)).dec left ≡ refused k → Takes (λ gs. tt {0}) ((F n).dec before) (Err k) (GainsPut out out'') first q
+    word_refused k e = takes_refused (λ gs. tt {0}) ((F n).dec before) (GainsPut out out'') first q k (f.rest ∙ ap (resume f.gs) e)
 
-  pub words_done : n ≤ i → (F 0).dec (drop (bit_at p) (bits_of s)) ≡ got [] (drop (bit_at p) (bits_of s)) → Answered F n s start out (Ok p) out'
+  pub words_done : (first p : FieldReader) → n ≤ i → p.src.now ≡ first.src.now → left ≡ ahead p → (F 0).dec left ≡ got [] left → Takes (λ gs. tt {0}) ((F n).dec before) (Ok (tt {0})) (GainsPut out out') first p
   unfolding splice
-  words_done h e =
+  words_done first p h same here e =
       let z : n - i ≡ 0 = omega arith in
-      let w : (F n).dec (drop start (bits_of s)) ≡ got f.gs (drop (bit_at p) (bits_of s)) = f.rest ∙ rw (z, e, append-nil) in
-      rw w (record { is = ap Ok (sym (pos_is s p f.inside)); left = f.gains ∙ rw zero-add })
+      takes_got (λ gs. tt {0}) ((F n).dec before) (GainsPut out out') first p f.gs (f.rest ∙ rw (z, e, append-nil) (ap (got f.gs) here)) same (f.gains ∙ rw zero-add)
 
 -- ---- by the mode
 pub words_zero : (mode n : ℕ) (bs : List Bool) → mode ≡ 0 → (gain_words mode n).dec bs ≡ got [] bs

@@ -1,34 +1,23 @@
 // The gain words of a field.
-ghost use Rattle.std.specs.Prelude.{◌≡◌, ◌+◌, ◌*◌, ◌≤◌, length, take};
-ghost use Rattle.bits.specs.Bits.{splice, Inside};
-ghost use Rattle.bits.specs.Format.{move_answer};
+ghost use Rattle.std.specs.Prelude.{◌≡◌, ◌+◌, ◌≤◌, length, take};
+ghost use Rattle.bits.specs.Bits.{splice};
+ghost use Rattle.bits.specs.Takes.{ahead, Takes};
 ghost use Rattle.channel.specs.Field.{group_words, gain_words};
-ghost use Rattle.reader.specs.Work.{bits_from, Reads, GainsPut, missing_code, three_gains};
+ghost use Rattle.reader.specs.Work.{GainsPut, missing_code, three_gains};
 
 use answers::Refusal;
-use bits::BitPos;
+use bits::field_reader::FieldReader;
 
-// The gain words of mode 1 or 2: a bit for each of n gains, which go to the front of the output.
-pub fn read_gain_bits(
-    src: &[u8],
-    pos: BitPos,
-    mode: u8,
-    n: usize,
-    gains: &mut [u8],
-) -> Result<BitPos, Refusal>
-    requires le_mode { (1 ≤ mode) × (mode ≤ 2) }
-    requires inside { Inside (8 * length src.now) pos }
-    requires n_in_bounds { n ≤ length gains.old }
-    ensures { Reads (move_answer (8 * length src.now)) ((gain_words mode n).dec (bits_from src.now pos)) result
-        (GainsPut gains.old gains.new) }
+// The gain words of mode 1 or 2: a bit for each gain.
+pub fn read_gain_bits(reader: &mut FieldReader, mode: u8, gains: &mut [u8]) -> Result<(), Refusal>
+    requires { (1 ≤ mode) × (mode ≤ 2) }
+    ensures { Takes (λ gs. tt {0}) ((gain_words mode (length gains.old)).dec (ahead reader.old)) result (GainsPut gains.old gains.new) reader.old reader.new }
 {
-    let mut p = pos;
-    for i in 0..n {
-        let (code, next) = p.read_u32(src, 1)?;
-        gains[i] = gains::gain_value(code as u8, mode);
-        p = next;
+    for gain in gains {
+        let code = reader.read_u32(1)?;
+        *gain = gains::gain_value(code as u8, mode);
     }
-    Ok(p)
+    Ok(())
 }
 
 // Whether an unused code of the last word is not 0: `left` gains are left to read.
@@ -67,53 +56,33 @@ pub fn put_gains(gains: &mut [u8], i: usize, left: usize, word: u32)
     gains[i + 2] = gains::gain_value(c.third, 3);
 }
 
-// Mode 3: a word of five bits for three gains, n gains in all, which go to the front of the output. Refuses with 9 a
-// word above 26, with 10 an unused code that is not 0.
-pub fn read_group_words(
-    src: &[u8],
-    pos: BitPos,
-    n: usize,
-    gains: &mut [u8],
-) -> Result<BitPos, Refusal>
-    requires inside { Inside (8 * length src.now) pos }
-    requires n_in_bounds { n ≤ length gains.old }
-    ensures { Reads (move_answer (8 * length src.now)) ((group_words n).dec (bits_from src.now pos)) result
-        (GainsPut gains.old gains.new) }
+// Mode 3: a word of five bits for three gains. Refuses with 9 a word above 26, with 10 an unused code that is not 0. By
+// parts of three (chunks_mut) a proof would know only how long a part is.
+pub fn read_group_words(reader: &mut FieldReader, gains: &mut [u8]) -> Result<(), Refusal>
+    ensures { Takes (λ gs. tt {0}) ((group_words (length gains.old)).dec (ahead reader.old)) result (GainsPut gains.old gains.new) reader.old reader.new }
 {
-    let mut p = pos;
-    let mut i: usize = 0;
-    while i < n {
-        let (word, next) = p.read_u32(src, 5)?;
+    for i in (0..gains.len()).step_by(3) {
+        let left = gains.len() - i;
+        let word = reader.read_u32(5)?;
         if 26 < word {
             return Err(Refusal::GroupWord);
         }
-        if missing(word, n - i) {
+        if missing(word, left) {
             return Err(Refusal::UnusedCode);
         }
-        put_gains(&mut *gains, i, n - i, word);
-        p = next;
-        i += 3;
+        put_gains(&mut *gains, i, left, word);
     }
-    Ok(p)
+    Ok(())
 }
 
-// The gain words of a mode for n active bins; the gains go to the front of the output.
-pub fn read_gains(
-    src: &[u8],
-    pos: BitPos,
-    mode: u8,
-    n: usize,
-    gains: &mut [u8],
-) -> Result<BitPos, Refusal>
-    requires mode_bound { mode ≤ 3 }
-    requires inside { Inside (8 * length src.now) pos }
-    requires n_in_bounds { n ≤ length gains.old }
-    ensures { Reads (move_answer (8 * length src.now)) ((gain_words mode n).dec (bits_from src.now pos)) result
-        (GainsPut gains.old gains.new) }
+// The gain words of a mode, for as many active bins as there are places for gains.
+pub fn read_gains(reader: &mut FieldReader, mode: u8, gains: &mut [u8]) -> Result<(), Refusal>
+    requires { mode ≤ 3 }
+    ensures { Takes (λ gs. tt {0}) ((gain_words mode (length gains.old)).dec (ahead reader.old)) result (GainsPut gains.old gains.new) reader.old reader.new }
 {
     match mode {
-        0 => Ok(pos),
-        3 => read_group_words(src, pos, n, gains),
-        _ => read_gain_bits(src, pos, mode, n, gains),
+        0 => Ok(()),
+        3 => read_group_words(reader, gains),
+        _ => read_gain_bits(reader, mode, gains),
     }
 }

@@ -2,13 +2,15 @@
 #![tactic(auto)]
 
 ghost use Rattle.std.specs.Prelude.{◌≡◌, ◌||◌, ◌+◌, ◌-◌, ◌*◌, ◌<◌, ◌≤◌, ltb, length};
-ghost use Rattle.bits.specs.Bits.{bit_at, Inside};
+ghost use Rattle.bits.specs.Bits.{bit_at};
+ghost use Rattle.bits.specs.Takes.{ahead, Takes};
 ghost use Rattle.channel.specs.Field.{field};
 ghost use Rattle.reader.specs.Reading.{call, answer_to, values_after, exact_after, indices_after};
-ghost use Rattle.reader.specs.Work.{bits_from, Reads, outputs, Long, FoundPut, GainsPut, field_answer};
+ghost use Rattle.reader.specs.Work.{outputs, Long, FoundPut, GainsPut, head_of};
 
 use answers::Refusal;
 use bits::BitPos;
+use bits::field_reader::FieldReader;
 use channel::bins::Bins;
 use scratch::Scratch;
 
@@ -17,8 +19,8 @@ mod one_bin;
 mod scratch;
 mod whole_field;
 
-// What a field shows beside the outputs. The gains are Gk in bin order, count of them, then zeros; bits is the length of
-// the field.
+// What a field shows beside the outputs. The gains are Gk in bin order, count of them, then zeros; bits is the field's
+// length.
 #[derive(Clone, Copy)]
 pub struct ChannelRead {
     pub mode: u8,
@@ -27,12 +29,11 @@ pub struct ChannelRead {
     pub bits: u32,
 }
 
-// The mode, how many gains, and the position behind the field.
+// What stands before the bins of a field: the mode, and how many gains.
 #[derive(Clone, Copy)]
-pub struct FieldEnd {
+pub struct FieldHead {
     pub mode: u8,
     pub count: usize,
-    pub pos: BitPos,
 }
 
 // Whether an output is too short for the bins: 6 * end could overflow, so the lengths are divided.
@@ -51,27 +52,24 @@ pub fn too_short(end: usize, values: usize, exact: usize, indices: usize) -> boo
 // Reads into the scratch buffers and copies to the outputs once the whole field has been read, so that a refusal leaves
 // them as they were.
 fn read_known(
-    src: &[u8],
-    pos: BitPos,
+    reader: &mut FieldReader,
     bins: Bins,
     gains: &mut [u8; 256],
     scratch: &mut Scratch,
     values: &mut [f32],
     exact: &mut [i32],
     indices: &mut [u16],
-) -> Result<FieldEnd, Refusal>
-    requires inside { Inside (8 * length src.now) pos }
-    requires long { Long bins.end (outputs values.old exact.old indices.old) }
-    ensures reads { Reads (field_answer (8 * length src.now))
-        ((field bins.entry.row.now bins.entry.start bins.entry.end).dec (bits_from src.now pos)) result
-        (λ c. GainsPut gains.old gains.new c.gains) }
+) -> Result<FieldHead, Refusal>
+    requires { Long bins.end (outputs values.old exact.old indices.old) }
+    ensures reads { Takes head_of ((field bins.entry.row.now bins.entry.start bins.entry.end).dec (ahead reader.old)) result
+        (λ c. GainsPut gains.old gains.new c.gains) reader.old reader.new }
     ensures found_put { FoundPut bins.entry.row.now bins.entry.start bins.entry.end (outputs values.old exact.old indices.old)
         (outputs values.new exact.new indices.new)
-        ((field bins.entry.row.now bins.entry.start bins.entry.end).dec (bits_from src.now pos)) }
+        ((field bins.entry.row.now bins.entry.start bins.entry.end).dec (ahead reader.old)) }
 {
-    let field = whole_field::read_field(src, pos, bins, gains, &mut *scratch)?;
+    let head = whole_field::read_field(reader, bins, gains, &mut *scratch)?;
     scratch.hand_out(bins, values, exact, indices);
-    Ok(field)
+    Ok(head)
 }
 
 // How many bits lie between two positions.
@@ -107,8 +105,8 @@ pub fn read_aht_channel(
 {
     // Zeroed before the row is looked at: behind it, a call takes some 4% longer.
     let mut scratch = Scratch {
-        values: [0.0; 1536],
-        exact: [0; 1536],
+        values: [[0.0; 6]; 256],
+        exact: [[0; 6]; 256],
         indices: [0; 256],
     };
     let short = too_short(end, values.len(), exact.len(), indices.len());
@@ -122,9 +120,9 @@ pub fn read_aht_channel(
         end,
     };
     let mut gains = channel::no_gains();
-    let field = read_known(
-        src,
-        pos.advance(1, 0),
+    let mut reader = FieldReader::new(src, pos);
+    let head = read_known(
+        &mut reader,
         bins,
         &mut gains,
         &mut scratch,
@@ -133,9 +131,9 @@ pub fn read_aht_channel(
         indices,
     )?;
     Ok(ChannelRead {
-        mode: field.mode,
+        mode: head.mode,
         gains,
-        count: field.count,
-        bits: bits_between(pos, field.pos),
+        count: head.count,
+        bits: bits_between(pos, reader.pos),
     })
 }

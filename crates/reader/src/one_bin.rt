@@ -1,91 +1,73 @@
 // One bin of a field.
-ghost use Rattle.std.specs.Prelude.{◌≡◌, ◌*◌, ◌<◌, ◌≤◌, length};
-ghost use Rattle.bits.specs.Bits.{Inside};
-ghost use Rattle.bits.specs.Format.{move_answer};
+ghost use Rattle.std.specs.Prelude.{◌<◌, ◌≤◌};
+ghost use Rattle.bits.specs.Takes.{ahead, Takes};
 ghost use Rattle.channel.specs.Field.{book, scalar, lenient, item, bin_of};
-ghost use Rattle.reader.specs.Work.{bits_from, Reads, BinPut};
+ghost use Rattle.reader.specs.Work.{BinPut};
 
 use super::scratch::Scratch;
 use answers::Refusal;
-use bits::BitPos;
+use bits::field_reader::FieldReader;
 use gains::Coding;
+use levels::CodeScale;
 
 // The index of a book bin. Four bytes ahead are bounds check enough: an index has 9 bits at most.
 pub fn read_index(
-    src: &[u8],
-    pos: BitPos,
+    reader: &mut FieldReader,
     hebap: u8,
     bin: usize,
     scratch: &mut Scratch,
-) -> Result<BitPos, Refusal>
+) -> Result<(), Refusal>
     requires le_hebap { (1 ≤ hebap) × (hebap ≤ 7) }
-    requires inside { Inside (8 * length src.now) pos }
     requires bin_bound { bin < 256 }
-    ensures { Reads (move_answer (8 * length src.now)) ((item lenient (book hebap)).dec (bits_from src.now pos)) result
-        (BinPut bin (book hebap) scratch.old scratch.new) }
+    ensures { Takes (λ x. tt {0}) ((item lenient (book hebap)).dec (ahead reader.old)) result
+        (BinPut bin (book hebap) scratch.old scratch.new) reader.old reader.new }
 {
     let n = tables::vq_bits(hebap) as u32;
-    let byte = pos.byte;
-    if byte + 4 <= src.len() {
-        let i = pos.peek_word(src, n);
-        scratch.put_index(hebap, i, bin);
-        return Ok(pos.advance_bits(n));
-    }
-    let (i, next) = pos.read_u32(src, n)?;
-    scratch.put_index(hebap, i, bin);
-    Ok(next)
+    let index = if reader.has_bytes(4) {
+        reader.take_word(n)
+    } else {
+        reader.read_u32(n)?
+    };
+    scratch.put_index(hebap, index, bin);
+    Ok(())
 }
 
 // The six codes of a scalar bin: their values, as f32 and exact, and 0 for the index go to the bin's places.
 pub fn read_codes(
-    src: &[u8],
-    pos: BitPos,
-    hebap: u8,
-    gk: u8,
+    reader: &mut FieldReader,
+    s: CodeScale,
     bin: usize,
     scratch: &mut Scratch,
-) -> Result<BitPos, Refusal>
-    requires le_hebap { (8 ≤ hebap) × (hebap ≤ 19) }
-    requires inside { Inside (8 * length src.now) pos }
-    requires bin_bound { bin < 256 }
-    ensures { Reads (move_answer (8 * length src.now)) ((item lenient (scalar hebap gk)).dec (bits_from src.now pos)) result
-        (BinPut bin (scalar hebap gk) scratch.old scratch.new) }
+) -> Result<(), Refusal>
+    requires { bin < 256 }
+    ensures { Takes (λ x. tt {0}) ((item lenient (scalar s.hebap s.gk)).dec (ahead reader.old)) result
+        (BinPut bin (scalar s.hebap s.gk) scratch.old scratch.new) reader.old reader.new }
 {
     scratch.indices[bin] = 0;
-    let s = levels::scale_at(hebap, gk);
-    scalars::read_six(
-        s,
-        src,
-        pos,
-        6 * bin,
-        &mut scratch.values,
-        &mut scratch.exact,
-    )
+    scalars::read_six(reader, s, &mut scratch.values[bin], &mut scratch.exact[bin])
 }
 
 // A bin: six values, six exact values and an index go to its places.
 pub fn read_bin(
-    src: &[u8],
-    pos: BitPos,
+    reader: &mut FieldReader,
     mode: u8,
     hebap: u8,
     gk: u8,
     bin: usize,
     scratch: &mut Scratch,
-) -> Result<BitPos, Refusal>
+) -> Result<(), Refusal>
     requires hebap_bound { hebap ≤ 19 }
-    requires inside { Inside (8 * length src.now) pos }
     requires bin_bound { bin < 256 }
-    ensures { Reads (move_answer (8 * length src.now)) ((item lenient (bin_of mode hebap gk)).dec (bits_from src.now pos)) result
-        (BinPut bin (bin_of mode hebap gk) scratch.old scratch.new) }
+    ensures { Takes (λ x. tt {0}) ((item lenient (bin_of mode hebap gk)).dec (ahead reader.old)) result
+        (BinPut bin (bin_of mode hebap gk) scratch.old scratch.new) reader.old reader.new }
 {
     match gains::coding_of(mode, hebap) {
         Coding::Nothing => {
             scratch.put_zeros(bin);
-            Ok(pos)
+            Ok(())
         }
-        Coding::Book => read_index(src, pos, hebap, bin, scratch),
-        Coding::Fixed => read_codes(src, pos, hebap, 1, bin, scratch),
-        Coding::Adaptive => read_codes(src, pos, hebap, gk, bin, scratch),
+        Coding::Book => read_index(reader, hebap, bin, scratch),
+        Coding::Fixed => read_codes(reader, levels::scale_at(hebap, 1), bin, scratch),
+        Coding::Adaptive => read_codes(reader, levels::scale_at(hebap, gk), bin, scratch),
     }
 }

@@ -3,6 +3,7 @@ ghost use Rattle.std.specs.Prelude.{◌≡◌, ◌-◌, ◌*◌, ◌^◌, ◌<�
 ghost use Rattle.bits.specs.Bits.{splice};
 ghost use Rattle.tables.specs.Tables.{vq_bits};
 ghost use Rattle.channel.specs.Field.{none, book, nothing, index};
+ghost use Rattle.channel.specs.Shown.{joined};
 ghost use Rattle.reader.specs.Work.{BinPut};
 
 use channel::bins::Bins;
@@ -10,8 +11,8 @@ use channel::bins::Bins;
 // Six f32, six exact values and an index for each bin of a row: as many as the longest row has.
 #[derive(Drop)]
 pub struct Scratch {
-    pub values: [f32; 1536],
-    pub exact: [i32; 1536],
+    pub values: [[f32; 6]; 256],
+    pub exact: [[i32; 6]; 256],
     pub indices: [u16; 256],
 }
 
@@ -25,9 +26,8 @@ impl Scratch {
         books::put_vector(
             hebap,
             i as usize,
-            6 * bin,
-            &mut self.values,
-            &mut self.exact,
+            &mut self.values[bin],
+            &mut self.exact[bin],
         );
         self.indices[bin] = i as u16;
     }
@@ -37,9 +37,8 @@ impl Scratch {
         requires { bin < 256 }
         ensures { BinPut bin none self.old self.new nothing }
     {
-        let at = 6 * bin;
-        self.values[at..at + 6].copy_from_slice(&[0.0; 6]);
-        self.exact[at..at + 6].copy_from_slice(&[0; 6]);
+        self.values[bin] = [0.0; 6];
+        self.exact[bin] = [0; 6];
         self.indices[bin] = 0;
     }
 
@@ -47,16 +46,16 @@ impl Scratch {
     pub fn hand_out(&self, bins: Bins, values: &mut [f32], exact: &mut [i32], indices: &mut [u16])
         requires { (6 * bins.end ≤ length values.old) × (6 * bins.end ≤ length exact.old) × (bins.end ≤ length indices.old) }
         ensures values_after { values.new ≡ splice values.old (6 * bins.entry.start)
-            (take (6 * bins.entry.end - 6 * bins.entry.start) (drop (6 * bins.entry.start) self.now.values)) }
+            (joined (take (bins.entry.end - bins.entry.start) (drop bins.entry.start self.now.values))) }
         ensures exact_after { exact.new ≡ splice exact.old (6 * bins.entry.start)
-            (take (6 * bins.entry.end - 6 * bins.entry.start) (drop (6 * bins.entry.start) self.now.exact)) }
+            (joined (take (bins.entry.end - bins.entry.start) (drop bins.entry.start self.now.exact))) }
         ensures indices_after { indices.new ≡ splice indices.old bins.entry.start
             (take (bins.entry.end - bins.entry.start) (drop bins.entry.start self.now.indices)) }
     {
-        let a = 6 * bins.start;
-        let b = 6 * bins.end;
-        values[a..b].copy_from_slice(&self.values[a..b]);
-        exact[a..b].copy_from_slice(&self.exact[a..b]);
-        indices[bins.start..bins.end].copy_from_slice(&self.indices[bins.start..bins.end]);
+        let a = bins.start;
+        let b = bins.end;
+        values[6 * a..6 * b].copy_from_slice(self.values[a..b].as_flattened());
+        exact[6 * a..6 * b].copy_from_slice(self.exact[a..b].as_flattened());
+        indices[a..b].copy_from_slice(&self.indices[a..b]);
     }
 }

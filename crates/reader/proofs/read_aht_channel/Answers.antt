@@ -1,25 +1,28 @@
 -- `reader::read_aht_channel` meets its contract. Assumes nothing.
-use Prim.Native.Nat.{ℕ, ◌+◌, ◌*◌, ◌≤◌, ◌<◌}
+use Prim.Native.Nat.{ℕ, ◌+◌, ◌-◌, ◌*◌, ◌≤◌, ◌<◌}
 use mathlib.Core.List.{List}
 use mathlib.Core.Bool.{Bool, ◌||◌}
 use lib.Dec.{ltb}
 use mathlib.Core.Path.{◌≡◌, refl, sym, ap, ◌∙◌, subst}
 use native.Mathlib.Omega.{arith}
 use borrow.Author.Tests.{leb-true, leb-false}
-use lib.ListN.{length}
-use Rattle.std.specs.Prelude.{None, Result, ⊤}
+use lib.ListN.{length, drop}
+use Rattle.std.specs.Prelude.{None, Ok, Result, ⊤}
+use Rattle.reader.specs.declared.ChannelRead.{ChannelRead}
+use Rattle.reader.specs.declared.FieldHead.{FieldHead}
 use Rattle.answers.specs.declared.Refusal.{Refusal}
 use Rattle.answers.specs.Answers.{answered}
 use Rattle.answers.proofs.Numbers.{passed_on, held, none_held}
-use Rattle.bits.specs.Bits.{bit_at, pos_of}
+use Rattle.bits.specs.Bits.{bits_of, bit_at}
+use Rattle.bits.specs.Takes.{ahead, Takes}
 use Rattle.bits.proofs.Reading.{at_pos}
 use Rattle.channel.specs.Row.{row_cause, no_gains}
 use Rattle.reader.specs.Reading.{Call, call, read_cause, found}
-use Rattle.reader.specs.Work.{Reads, outputs, FoundPut, GainsPut, Near, field_answer}
+use Rattle.reader.specs.Work.{outputs, FoundPut, GainsPut, head_of}
 use Rattle.reader.proofs.Causes.{read_none, found_cause, found_past, found_field}
-use Rattle.reader.proofs.Reach.{near, answer_follows}
+use Rattle.reader.proofs.Reach.{near, answer_is, answer_refused}
 use Rattle.reader.proofs.read_aht_channel.Goals as goal
-use Rattle.reader.proofs.read_aht_channel.Goals.{After-check_row, In_ok-check_row, After-read_known}
+use Rattle.reader.proofs.read_aht_channel.Goals.{After-check_row, In_ok-check_row, After-read_known, In_ok-head}
 
 -- ---- the causes
 -- the row's cause is the cause against the whole call
@@ -52,39 +55,53 @@ invariant_of-bins c =
     let ok = (read_none _ _ _ _ (none (goal.at.invariant_of-bins c).In_ok-check_row)).0 in
     record { ordered = ok.ordered; few = ok.few; rows = ok.rows; known = ok.known }
 
-pub read_known-requires-clause-long : goal.read_known-requires-clause-long
-read_known-requires-clause-long c = (read_none _ _ _ _ (none (goal.at.read_known-requires-clause-long c).In_ok-check_row)).1
+pub read_known-requires : goal.read_known-requires
+read_known-requires c = (read_none _ _ _ _ (none (goal.at.read_known-requires c).In_ok-check_row)).1
 
 -- ---- the field, which is what the call finds
-seen : (c : After-read_known) → let a = c.args in let t = call a.src.now (bit_at a.pos) a.values.now a.exact.now a.indices.now in let f = found a.hebap.now a.start a.end t in
-    read_cause a.hebap.now a.start a.end t ≡ None → Reads (field_answer (8 * length a.src.now)) f c.read_known.result (λ d. GainsPut no_gains c.read_known.new.gains d.gains)
+abbrev Left : After-read_known → Result FieldHead Refusal → Type 0
+Left c r = let a = c.args in let t = call a.src.now (bit_at a.pos) a.values.now a.exact.now a.indices.now in let f = found a.hebap.now a.start a.end t in
+    Takes head_of f r (λ d. GainsPut no_gains c.read_known.new.gains d.gains) c.new-reader.result c.read_known.new.reader
     × FoundPut a.hebap.now a.start a.end (outputs a.values.now a.exact.now a.indices.now) (outputs c.read_known.new.values c.read_known.new.exact c.read_known.new.indices) f
+
+-- where the reader begins
+first : (c : After-read_known) → bit_at c.new-reader.result.pos ≡ bit_at c.args.pos
+first c = ap bit_at c.new-reader.ensures.place ∙ at_pos (bit_at c.args.pos)
+
+seen : (c : After-read_known) → let a = c.args in read_cause a.hebap.now a.start a.end (call a.src.now (bit_at a.pos) a.values.now a.exact.now a.indices.now) ≡ None → Left c c.read_known.result
 seen c none =
     let a = c.args in
     let h : bit_at a.pos + 1 * 0 ≤ 8 * length a.src.now = leb-true _ _ (sym c.has_bits.ensures ∙ c.if-not-has_bits.false) in
-    let e : bit_at a.pos + 1 * 0 ≡ bit_at a.pos = omega arith in
-    let p : bit_at c.advance.result ≡ bit_at a.pos = ap bit_at (c.advance.ensures ∙ ap pos_of e) ∙ at_pos (bit_at a.pos) in
-    rw (found_field _ _ _ _ none (omega arith), ← p, ← c.no_gains-gains.ensures) (c.read_known.ensures.reads, c.read_known.ensures.found_put)
+    let e : drop (bit_at a.pos) (bits_of a.src.now) ≡ ahead c.new-reader.result = rw (first c, c.new-reader.ensures.bytes) refl in
+    rw (found_field _ _ _ _ none (omega arith), e, ← c.no_gains-gains.ensures) (c.read_known.ensures.reads, c.read_known.ensures.found_put)
 
-pub returns-in_err-field : goal.returns-in_err-field
-returns-in_err-field c =
+got : (c : After-read_known) → let a = c.args in read_cause a.hebap.now a.start a.end (call a.src.now (bit_at a.pos) a.values.now a.exact.now a.indices.now) ≡ None
+    → (r : Result FieldHead Refusal) → c.read_known.result ≡ r → Left c r
+got c none r e = subst (Left c) e (seen c none)
+
+pub returns-in_err-head : goal.returns-in_err-head
+returns-in_err-head c =
     let a = c.args in
-    let at = goal.at.returns-in_err-field c in
-    let s = seen at.After-read_known (none at.In_ok-check_row) in
-    let r = answer_follows a.hebap.now a.start a.end _ a.pos refl _ _ s.0 in
-    rw (passed_on c.from_residual-in_err-field.ensures) record { value = rw c.in_err-field.was at r; values_after = s.1.0; exact_after = s.1.1; indices_after = s.1.2 }
+    let at = goal.at.returns-in_err-head c in
+    let s = got at.After-read_known (none at.In_ok-check_row) _ c.in_err-head.was in
+    rw (passed_on c.from_residual-in_err-head.ensures)
+    record { value = answer_refused a.hebap.now a.start a.end _ _ _ c.new-reader.ensures.bytes (first at.After-read_known) _ _ s.0; values_after = s.1.0; exact_after = s.1.1; indices_after = s.1.2 }
 
 pub bits_between-requires : goal.bits_between-requires
 bits_between-requires c =
     let a = c.args in
     let at = goal.at.bits_between-requires c in
-    let s = seen at.After-read_known (none at.In_ok-check_row) in
-    subst (Near a.pos) c.in_ok-field.was (rw s.0.is (near a.hebap.now a.start a.end _ a.pos refl))
+    let s = got at.After-read_known (none at.In_ok-check_row) _ c.in_ok-head.was in
+    let f = first at.After-read_known in
+    let n = near a.hebap.now a.start a.end _ _ _ c.new-reader.ensures.bytes f _ _ s.0 in
+    (omega (arith, n.0), omega (arith, n.1), n.2)
 
 pub returns : goal.returns
 returns c =
     let a = c.args in
     let at = goal.at.returns c in
-    let s = seen at.After-read_known (none at.In_ok-check_row) in
-    let r = answer_follows a.hebap.now a.start a.end _ a.pos refl _ _ s.0 in
-    rw c.bits_between.ensures record { value = rw c.in_ok-field.was at r; values_after = s.1.0; exact_after = s.1.1; indices_after = s.1.2 }
+    let s = got at.After-read_known (none at.In_ok-check_row) _ c.in_ok-head.was in
+    let f = first at.After-read_known in
+    let r = answer_is a.hebap.now a.start a.end _ _ _ c.new-reader.ensures.bytes f _ _ s.0 in
+    let b : c.bits_between.result ≡ bit_at c.read_known.new.reader.pos - bit_at c.new-reader.result.pos = omega (arith, f, c.bits_between.ensures) in
+    record { value = ap {B = Result ChannelRead Refusal} (λ (k : ℕ). Ok (record { mode = c.in_ok-head.head.mode; gains = c.read_known.new.gains; count = c.in_ok-head.head.count; bits = k })) b ∙ r; values_after = s.1.0; exact_after = s.1.1; indices_after = s.1.2 }

@@ -2,44 +2,39 @@
 use Prim.Native.Nat.{◌-◌}
 use mathlib.Core.Path.{◌≡◌, refl, sym, ◌∙◌}
 use mathlib.Core.List.{◌∷◌, []}
-use mathlib.Core.Logic.{inl}
-use lib.ListN.{drop}
-use Rattle.answers.proofs.Numbers.{passed_on}
-use Rattle.bits.specs.Bits.{bits_of, bit_at}
-use Rattle.bits.specs.Format.{number, got}
-use Rattle.bits.proofs.Laws.{splice_one}
-use Rattle.bits.proofs.Reading.{number_as, next_inside}
-use Rattle.channel.specs.Field.{gain_words}
-use Rattle.reader.proofs.GainWords.{none_yet, word_more, word_refused, words_done, number_below, bits_none, bit_short, bit_next}
+use lib.ListN.{length}
 use native.Mathlib.Omega.{arith}
-use borrow.Author.Rules.{rules}
+use Rattle.answers.proofs.Numbers.{passed_on}
+use Rattle.bits.specs.Format.{number, got}
+use Rattle.bits.specs.Takes.{ahead}
+use Rattle.bits.proofs.Laws.{splice_one}
+use Rattle.bits.proofs.Taking.{is_got, refused_by}
+use Rattle.channel.specs.Field.{gain_words}
+use Rattle.reader.proofs.GainWords.{none_yet, word_more, word_refused, words_done, bits_none, bit_short, bit_next}
 use Rattle.reader.proofs.gain_words.read_gain_bits.Goals as goal
 use Rattle.reader.proofs.gain_words.read_gain_bits.Goals.{In_ok-code}
 
-pub loop-i-init : goal.loop-i-init
-loop-i-init c = let a = c.args in none_yet (gain_words a.mode) a.n a.src.now (bit_at a.pos) a.gains.now a.pos refl c.requires.inside
+pub loop-gain-init : goal.loop-gain-init
+loop-gain-init c = let a = c.args in (none_yet (gain_words a.mode) (length a.gains.now) (ahead a.reader.now) a.gains.now, refl)
 
 pub returns-in_err-code : goal.returns-in_err-code
 returns-in_err-code c = let a = c.args in
     rw (passed_on c.from_residual.ensures)
-    (word_refused c.loop-i.invariant _ (bit_short a.mode c.requires.le_mode (a.n - c.loop-i.i) (omega arith) _ _
-    (number_as a.src.now (bit_at c.loop-i.p) 1 (omega arith) (inl (omega arith)) _ _ c.read_u32.ensures c.in_err-code.was)))
+    (word_refused c.loop-gain.invariant.0 _ _ _ _ (bit_short a.mode c.requires (length a.gains.now - c.loop-gain.gain-index) (omega arith) _ _ (refused_by _ _ _ _ _ _ c.in_err-code.ensures)))
 
--- the code that was read, and the position behind it
-code_is : (c : In_ok-code) → let bs = bits_of c.args.src.now in (number 1).dec (drop (bit_at c.loop-i.p) bs) ≡ got c.in_ok-code.code (drop (bit_at c.in_ok-code.next) bs)
-code_is c = number_as c.args.src.now (bit_at c.loop-i.p) 1 (omega arith) (inl (omega arith)) _ _ c.read_u32.ensures c.in_ok-code.was
+-- the code that was read
+code_is : (c : In_ok-code) → ((number 1).dec (ahead c.loop-gain.reader) ≡ got c.in_ok-code.code (ahead c.read_u32.new.self)) × (c.read_u32.new.self.src.now ≡ c.loop-gain.reader.src.now)
+code_is c = is_got _ _ _ _ _ c.in_ok-code.ensures
 
-pub overflow_cast-code : goal.overflow_cast-code
-overflow_cast-code c = let h = number_below 1 _ _ _ (code_is (goal.at.overflow_cast-code c).In_ok-code) in search rules
-
-pub loop-i-preserved : goal.loop-i-preserved
-loop-i-preserved c =
+pub loop-gain-preserved : goal.loop-gain-preserved
+loop-gain-preserved c =
     let a = c.args in
     let v = c.gain_value.result in
-    word_more c.loop-i.invariant c.in_ok-code.next 1 _ (v ∷ []) (omega arith) (omega arith)
-    (next_inside a.src.now (bit_at c.loop-i.p) 1 (omega arith) _ _ (sym c.read_u32.ensures ∙ c.in_ok-code.was)) (omega arith)
-    (bit_next a.mode c.requires.le_mode (a.n - c.loop-i.i) (omega arith) _ _ _ _ (code_is (goal.at.loop-i-preserved c).In_ok-code) c.gain_value.ensures) (sym (splice_one c.loop-i.gains c.loop-i.i v (omega arith)))
+    let k = code_is (goal.at.loop-gain-preserved c).In_ok-code in (
+      word_more c.loop-gain.invariant.0 c.read_u32.new.self 1 _ (v ∷ []) (omega arith) (omega arith) (omega arith)
+          (bit_next a.mode c.requires (length a.gains.now - c.loop-gain.gain-index) (omega arith) _ _ _ _ k.0 c.gain_value.ensures) (sym (splice_one c.loop-gain.gain-items c.loop-gain.gain-index v (omega arith))),
+      k.1 ∙ c.loop-gain.invariant.1,
+    )
 
 pub returns : goal.returns
-returns c = let a = c.args in
-    words_done c.loop-i.invariant (omega arith) (bits_none a.mode c.requires.le_mode _)
+returns c = let a = c.args in words_done c.loop-gain.invariant.0 _ _ (omega arith) c.loop-gain.invariant.1 refl (bits_none a.mode c.requires _)

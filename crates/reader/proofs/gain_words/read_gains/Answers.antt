@@ -1,17 +1,14 @@
 -- `reader::gain_words::read_gains` meets its contract. Assumes nothing.
-use mathlib.Core.Path.{refl, sym, ap}
-use lib.ListN.{drop}
-use Rattle.bits.specs.Bits.{bits_of, bit_at}
-use Rattle.bits.proofs.Reading.{pos_is}
-use Rattle.std.specs.Prelude.{Ok}
-use Rattle.reader.proofs.GainWords.{words_zero, words_three}
+use mathlib.Core.Path.{refl}
+use lib.ListN.{length}
 use native.Mathlib.Omega.{arith}
+use Rattle.bits.specs.Takes.{ahead}
+use Rattle.bits.proofs.Taking.{takes_got}
+use Rattle.reader.proofs.GainWords.{words_zero, words_three}
 use Rattle.reader.proofs.gain_words.read_gains.Goals as goal
 
 pub returns-in-0 : goal.returns-in-0
-returns-in-0 c = let a = c.args in
-    rw (words_zero a.mode a.n (drop (bit_at a.pos) (bits_of a.src.now)) (omega arith)) (record { is = ap Ok (sym (pos_is a.src.now a.pos c.requires.inside)); left = refl })
+returns-in-0 c = let a = c.args in takes_got _ _ _ _ _ _ (words_zero a.mode (length a.gains.now) (ahead a.reader.now) (omega arith)) refl refl
 
 pub returns-in-3 : goal.returns-in-3
-returns-in-3 c = let a = c.args in
-    rw (words_three a.mode a.n (omega arith)) c.read_group_words.ensures
+returns-in-3 c = let a = c.args in rw (words_three a.mode (length a.gains.now) (omega arith)) c.read_group_words.ensures

@@ -1,9 +1,7 @@
 -- `reader::scratch::Scratch::put_index` meets its contract. Assumes nothing.
 use Prim.Native.Nat.{◌^◌, ◌≤◌}
-use mathlib.Core.Path.{sym}
 use lib.Pow.{pow_mono}
 use borrow.Author.Rules.{rules}
-use Rattle.bits.proofs.Laws.{splice_one}
 use Rattle.tables.specs.Tables.{vq_bits}
 use Rattle.tables.proofs.Rules.{vq_most}
 use Rattle.reader.proofs.scratch.Scratch.put_index.Goals as goal
@@ -12,6 +10,3 @@ pub overflow_cast-self : goal.overflow_cast-self
 overflow_cast-self c = let m : 2 ^ vq_bits c.args.hebap ≤ 2 ^ 9 = pow_mono (vq_most c.args.hebap) in
     let i = c.requires.le_hebap.2 in
     search rules
-
-pub returns : goal.returns
-returns c = (c.put_vector.ensures.values_after, c.put_vector.ensures.exact_after, sym (splice_one c.args.self.now.indices c.args.bin _ (search rules)))
