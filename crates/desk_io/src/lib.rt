@@ -2,12 +2,13 @@
 // What is read and written is said of each reader and writer that knows its bytes. The system's do not know theirs.
 #![tactic(auto)]
 
-ghost use Rattle.std.specs.Prelude.{◌≡◌, ◌≢◌, ◌≤◌, length, take, IfOk, OnOk, IfSome, Err};
+ghost use Rattle.std.specs.Prelude.{◌≡◌, ◌≢◌, length, IfOk, OnOk, IfSome, Err};
 ghost use Rattle.std.specs.Io.KnownBytes.{Appends, Keeps};
 ghost use Rattle.desktext.specs.Desk.{desk_answer};
 ghost use Rattle.desk_io.specs.Bytes.{IsRead, IsReadOut, ReadsFew};
 
 use desktext::View;
+use std::fmt::{self, Display, Formatter};
 use std::io;
 use std::io::{Read, Write};
 
@@ -18,8 +19,17 @@ pub enum Fault {
     Unwritten,
 }
 
-// Reads until the buffer is full or the input ends. Returns how many bytes that is. Of std, read_exact and read_to_end say
-// too little of what was read before an error.
+impl Display for Fault {
+    fn fmt<W: fmt::Write>(&self, f: &mut Formatter<W>) -> fmt::Result {
+        f.write_str(match self {
+            Fault::Unread => "standard input cannot be read",
+            Fault::Unwritten => "standard output cannot be written",
+        })
+    }
+}
+
+// Reads until the buffer is full or the input ends. Returns how many bytes that is. Of std, read_exact and read_to_end
+// say too little of what was read before an error.
 fn read_input<R: Read>(reader: &mut R, buf: &mut [u8]) -> io::Result<usize>
     ensures front { IfOk result (IsRead (R.remaining reader.old) (R.remaining reader.new) buf.new) }
     ensures limit { ReadsFew (R.remaining reader.old) (R.remaining reader.new) (length buf.new) }
@@ -33,15 +43,6 @@ fn read_input<R: Read>(reader: &mut R, buf: &mut [u8]) -> io::Result<usize>
         done += n;
     }
     Ok(done)
-}
-
-// The first n bytes of the output are the answer.
-fn print<W: Write>(writer: &mut W, out: &[u8; 32768], n: usize) -> io::Result<()>
-    requires { n ≤ 32768 }
-    ensures { OnOk result (Appends (W.contents writer.old) (W.contents writer.new) (take n out.now)) }
-{
-    let all = &out[..];
-    writer.write_all(&all[..n])
 }
 
 // Writes the answer to the text that the reader gives. The input has one byte more than a text may have: of a longer
@@ -59,22 +60,14 @@ pub fn answer<R: Read, W: Write>(reader: &mut R, writer: &mut W, view: View) -> 
     };
     let mut out = [0u8; 32768];
     let k = desktext::desk_from(view, &input, n, &mut out);
-    print(writer, &out, k).map_err(|_| Fault::Unwritten)
+    writer.write_all(&out[..k]).map_err(|_| Fault::Unwritten)
 }
 
-// What went wrong, behind the program's name. Where it cannot be written either nobody is told.
-fn complain<E: Write>(errors: &mut E, program: &[u8], fault: Fault) {
-    let _ = errors.write_all(program);
-    let _ = match fault {
-        Fault::Unread => errors.write_all(b": standard input cannot be read\n"),
-        Fault::Unwritten => errors.write_all(b": standard output cannot be written\n"),
-    };
-}
-
-// Answers the text on standard input on standard output, or says on standard error why not.
+// Answers the text on standard input on standard output, or says on standard error why not. Where that cannot be
+// written either nobody is told.
 pub fn run(rt: &HostRuntime, program: &[u8], view: View) {
-    match answer(&mut rt.stdin(), &mut rt.stdout(), view) {
-        Ok(()) => (),
-        Err(fault) => complain(&mut rt.stderr(), program, fault),
+    if let Err(fault) = answer(&mut rt.stdin(), &mut rt.stdout(), view) {
+        let _ = rt.stderr().write_all(program);
+        let _ = eprintln!(rt; ": {fault}");
     }
 }

@@ -1,4 +1,5 @@
 pub mod Laws
+pub mod Signed
 pub mod Steps
 pub mod ChannelTokens
 pub mod Forms

@@ -1,7 +1,7 @@
 -- Laws of what the readers put into lent outputs. Assumes nothing.
 use Prim.Native.Nat.{ℕ, zero, suc, ◌+◌, ◌-◌, ◌*◌, ◌/◌, ◌%◌, ◌≤◌, ◌<◌}
 use mathlib.Core.Path.{◌≡◌, refl, sym, ap, ◌∙◌}
-use mathlib.Core.List.{List, [], ◌++◌, map}
+use mathlib.Core.List.{List, [], ◌∷◌, ◌++◌, map}
 use mathlib.Core.Bool.{Bool, true, false}
 use native.Mathlib.Omega.{arith}
 use Rattle.std.proofs.Common.{Option, Some, None}
@@ -13,23 +13,24 @@ use lib.Dec.{leb}
 use borrow.Author.Tests.{le-leb, leb-true, leb-false}
 use Rattle.bits.specs.Bits.{splice}
 use Rattle.bits.proofs.Copying.{put_more}
-use Rattle.desktext.specs.Spelling.{last_number}
-use Rattle.desktext.specs.Channel.{part, vectors, TextChannel, none, channel_from, channel_in}
-use Rattle.desktext.specs.Work.{longest, vector_numbers, ListedIn, Checks}
+use Rattle.desktext.specs.Spelling.{largest}
+use Rattle.desktext.specs.Channel.{TextChannel, none, channel_from, channel_in}
+use Rattle.desktext.specs.Work.{longest, number_of, numbers_of, vector_numbers, ListedIn, Checks}
+use Rattle.desktext.specs.declared.Token.{Token}
+use Rattle.std.specs.Borrow.{Bor}
 use Rattle.desktext.specs.declared.Shape.{Shape}
 use Rattle.desktext.proofs.Laws.{part_long, part_at}
-use Rattle.desktext.proofs.ChannelTokens.{all_at, vectors_sole}
 
 -- one element more of src, shown by f, is put at its place
-pub put_turn : {B : Type 0} (f : ℕ → B) (src : List ℕ) (o l : List B) (i : ℕ) → i < length src → i < length o → l ≡ splice o 0 (map f (take i src))
-    → set l i (f (get_or src i 0)) ≡ splice o 0 (map f (take (i + 1) src))
-put_turn f src o l i h k e =
+pub put_turn : {A B : Type 0} (f : A → B) (src : List A) (d : A) (o l : List B) (i : ℕ) → i < length src → i < length o → l ≡ splice o 0 (map f (take i src))
+    → set l i (f (get_or src i d)) ≡ splice o 0 (map f (take (i + 1) src))
+put_turn f src d o l i h k e =
     let n : 0 + length (take i src) ≡ i = omega (arith, length-take-le i src (le_of_lt h)) in
-    rw (e, add-one, take-suc src i 0 h) (ap (λ (j : ℕ). set (splice o 0 (map f (take i src))) j (f (get_or src i 0))) (sym n) ∙ put_more f o 0 (take i src) (get_or src i 0) (omega arith))
+    rw (e, add-one, take-suc src i d h) (ap (λ (j : ℕ). set (splice o 0 (map f (take i src))) j (f (get_or src i d))) (sym n) ∙ put_more f o 0 (take i src) (get_or src i d) (omega arith))
 
 -- and all of them are there
-pub put_all : {B : Type 0} (f : ℕ → B) (src : List ℕ) (o l : List B) (i : ℕ) → length src ≤ i → l ≡ splice o 0 (map f (take i src)) → l ≡ splice o 0 (map f src)
-put_all f src o l i h e = e ∙ ap (λ (x : List ℕ). splice o 0 (map f x)) (take_all i src h)
+pub put_all : {A B : Type 0} (f : A → B) (src : List A) (o l : List B) (i : ℕ) → length src ≤ i → l ≡ splice o 0 (map f (take i src)) → l ≡ splice o 0 (map f src)
+put_all {A} f src o l i h e = e ∙ ap (λ (x : List A). splice o 0 (map f x)) (take_all i src h)
 
 -- where the numbers of vectors stand
 pub length_vector_numbers : (n : ℕ) (s : List ℕ) → 8 * n ≤ length s → length (vector_numbers n s) ≡ 6 * n
@@ -62,22 +63,25 @@ vector_number_at (suc n) s i h k = go (leb 6 i) refl (λ j. vector_number_at n (
         let y : 1 + i ≡ i / 6 * 8 + 1 + i % 6 = omega arith in
         get_or-append (take 6 (drop 1 s)) (vector_numbers n (drop 8 s)) 0 i (omega (arith, a)) ∙ part_at s 1 6 i l ∙ ap (λ (j : ℕ). get_or s j 0) y
 
--- every number of the vectors is at most the last
-pub six_fit : (ts : List ℕ) (at n : ℕ) → part (vector_numbers n (drop at ts)) [] ≡ vectors n (drop at ts) → at + 8 * n < length ts
-    → (i : ℕ) → i < 6 * n → get_or (vector_numbers n (drop at ts)) i 0 ≤ last_number
-six_fit ts at n e h i k =
-    let l : length (vector_numbers n (drop at ts)) ≡ 6 * n = length_vector_numbers n (drop at ts) (omega (arith, length-drop at ts)) in
-    (all_at 0 last_number (vector_numbers n (drop at ts)) i (vectors_sole n (drop at ts) (vector_numbers n (drop at ts)) [] (sym e)).3 (omega arith)).1
+-- a token's number is that of the place
+pub number_there : (ts : List Token) (i : ℕ) (d : Token) → i < length ts → number_of (get_or ts i d) ≡ get_or (numbers_of ts) i 0
+number_there [] i d h = absurd (omega arith)
+number_there (t ∷ ts) zero d h = refl
+number_there (t ∷ ts) (suc i) d h = number_there ts i d (omega arith)
+
+pub row_numbers : (ts : List Token) → map (λ t. t - largest) (numbers_of ts) ≡ map (λ t. number_of t - largest) ts
+row_numbers [] = refl
+row_numbers (t ∷ ts) = ap (λ (l : List ℕ). (number_of t - largest) ∷ l) (row_numbers ts)
 
 -- the tokens are no channel's
-pub checks_nothing : {ts : List ℕ} {there : TextChannel} {r : Option Shape} → r ≡ None → there ≡ none → Checks ts there r
+pub checks_nothing : {there : TextChannel} {r : Option (Shape × Bor (List Token) × Bor (List Token))} → r ≡ None → there ≡ none → Checks there r
 checks_nothing e h = rw e record { shown = sym h; fits = tt }
 
 -- the channel of a text by its cases
-pub channel_broken : (s out : List ℕ) → length s ≤ longest → ListedIn s out None → channel_in s ≡ none
+pub channel_broken : (s : List ℕ) (out : List Token) → length s ≤ longest → ListedIn s out None → channel_in s ≡ none
 unfolding channel_in
 channel_broken s out h l = rw (le-leb (length s) 65536 (omega arith), l)
 
-pub channel_listed : (s out : List ℕ) (n : ℕ) → length s ≤ longest → ListedIn s out (Some n) → channel_in s ≡ channel_from (take n out)
+pub channel_listed : (s : List ℕ) (out : List Token) (n : ℕ) → length s ≤ longest → ListedIn s out (Some n) → channel_in s ≡ channel_from (numbers_of (take n out))
 unfolding channel_in
 channel_listed s out n h l = rw (le-leb (length s) 65536 (omega arith), l.0)

@@ -1,103 +1,136 @@
 -- How the reading goes about it: no meaning of its own. What holds is said by Text, Channel and Desk.
-use Rattle.std.specs.Prelude.{ℕ, zero, suc, ◌+◌, ◌-◌, ◌*◌, ◌≤◌, ◌<◌, ◌≡◌, List, [], ◌++◌, map, Bool, cond, length, take, drop, get_or, Float, Option, Some, None, Result, Ok, Err}
+use Rattle.std.specs.Prelude.{ℕ, zero, suc, ◌+◌, ◌-◌, ◌*◌, ◌≤◌, ◌<◌, ◌≡◌, List, [], ◌++◌, map, Bool, false, cond, leb, length, take, drop, Float, Option, Some, None, Result, Ok, Err, ℤ, pos, negsuc}
+use Rattle.std.specs.Borrow.{Bor}
 use Rattle.answers.specs.Causes.{number}
 use Rattle.answers.specs.declared.Refusal.{Refusal}
 use Rattle.bits.specs.Bits.{splice}
 use Rattle.plantext.specs.PlanText.{refused_text}
 use Rattle.planner.specs.declared.Plan.{Plan}
 use Rattle.planner.specs.Planning.{planned}
-use Rattle.desktext.specs.Spelling.{largest, last_number}
-use Rattle.desktext.specs.Text.{Seen, seen, unseen, got, malformed, after, rest, tokens, closing}
+use Rattle.desktext.specs.Spelling.{largest, last_number, channel_token, bins_token, row_token, vector_token, close_token}
+use Rattle.desktext.specs.Printed.{AllIn}
+use Rattle.desktext.specs.Text.{Seen, seen, unseen, leads, got, malformed, after, rest, tokens}
 use Rattle.desktext.specs.declared.Shape.{Shape}
+use Rattle.desktext.specs.declared.Name.{Name}
+use Rattle.desktext.specs.declared.Name.TheVariants as name
+use Rattle.desktext.specs.declared.Token.{Token}
+use Rattle.desktext.specs.declared.Token.TheVariants as token
 use Rattle.desktext.specs.Channel.{Part, part, missing, vectors, TextChannel, channel, none}
+
+-- ---- tokens
+-- above the numbers of all tokens
+abbrev pub beyond : ℕ
+beyond = 33554438
+
+unfoldable pub opening : Name → ℕ
+opening name.Channel = channel_token
+opening name.Bins = bins_token
+opening name.Row = row_token
+opening name.Vector = vector_token
+
+-- the number of a token (Spelling). A number that is too large for a text is none of its tokens.
+unfoldable pub number_of : Token → ℕ
+number_of (token.Number (pos m)) = cond (leb m largest) (largest + m) beyond
+number_of (token.Number (negsuc m)) = cond (leb (suc m) largest) (largest - suc m) beyond
+number_of (token.Open n) = opening n
+number_of token.Close = close_token
+
+abbrev pub numbers_of : List Token → List ℕ
+numbers_of ts = map number_of ts
 
 -- ---- the bytes
 -- no text of a channel has more: law `text_short`
 abbrev pub longest : ℕ
 longest = 23121
 
-abbrev pub seen_in : List ℕ → Option (ℕ × ℕ) → Seen
-seen_in s (Some (t, q)) = seen t (drop q s)
-seen_in s None = unseen
+-- what is found, and the text behind it
+abbrev pub seen_in : {A : Type 0} → (A → ℕ) → Option (A × Bor (List ℕ)) → Seen
+seen_in f (Some p) = seen (f p.0) p.1.now
+seen_in f None = unseen
 
--- a token of at most `limit`, and a place after it that is `low` or more
-abbrev pub IsAhead : ℕ → ℕ → ℕ → Option (ℕ × ℕ) → Type 0
-IsAhead low end limit (Some (t, q)) = (low ≤ q) × (q ≤ end) × (t ≤ limit)
-IsAhead low end limit None = Unit {0}
+-- it is of at most `limit`, and the text behind it is shorter than s
+abbrev pub IsAhead : {A : Type 0} → (A → ℕ) → List ℕ → ℕ → Option (A × Bor (List ℕ)) → Type 0
+IsAhead f s limit (Some p) = (length p.1.now < length s) × (f p.0 ≤ limit)
+IsAhead f s limit None = Unit {0}
 
-pub record Finds (s : List ℕ) (low limit : ℕ) (there : Seen) (r : Option (ℕ × ℕ)) : Type 0 where
-  pub shown : seen_in s r ≡ there
-  pub onward : IsAhead low (length s) limit r
+-- a token at the front of s
+pub record Finds (s : List ℕ) (there : Seen) (r : Option (Token × Bor (List ℕ))) : Type 0 where
+  pub shown : seen_in number_of r ≡ there
+  pub onward : IsAhead number_of s close_token r
 
--- n tokens are read, the reader stands at `at` in so many open forms
-pub record Reading (s : List ℕ) (at n depth : ℕ) (out : List ℕ) : Type 0 where
-  pub whole : tokens s ≡ after (take n out) (rest (suc (length s) - n) depth (drop at s))
-  pub fewer : n ≤ at
-  pub inside : at ≤ length s
+-- the name with its bracket, if its word is there
+abbrev pub word_seen : List ℕ → List ℕ → Name → Seen
+word_seen s w n = cond (leads w s) (seen (opening n) (drop (length w) s)) unseen
 
-abbrev pub StepReads : List ℕ → ℕ → ℕ → List ℕ → Option (ℕ × ℕ) → Type 0
-StepReads s at depth out (Some (q, m)) = (at < q) × Reading s q m depth out
-StepReads s at depth out None = tokens s ≡ malformed
+-- the size of a number, by its digits at the front of s or further on
+abbrev pub IsNoLonger : List ℕ → Option (ℕ × Bor (List ℕ)) → Type 0
+IsNoLonger s (Some p) = (length p.1.now ≤ length s) × (p.0 ≤ largest)
+IsNoLonger s None = Unit {0}
 
--- where the form reader and the item reader are called: `levels` more forms may be open
-pub record FormAt (s : List ℕ) (at levels n : ℕ) (out : List ℕ) : Type 0 where
-  pub reading : Reading s at n (4 - levels) out
-  pub few : levels ≤ 3
-  pub room : length s ≤ length out
+pub record Counts (s : List ℕ) (there : Seen) (r : Option (ℕ × Bor (List ℕ))) : Type 0 where
+  pub shown : seen_in (λ m. m) r ≡ there
+  pub onward : IsNoLonger s r
 
-pub record ItemAt (s : List ℕ) (at levels n : ℕ) (out : List ℕ) : Type 0 where
-  pub in_form : FormAt s at levels n out
-  pub unclosed : closing (drop at s) ≡ unseen
+-- n tokens are read, and r is left to read in so many open forms
+pub record Reading (s r : List ℕ) (n depth : ℕ) (out : List Token) : Type 0 where
+  pub whole : tokens s ≡ after (numbers_of (take n out)) (rest (suc (length s) - n) depth r)
+  pub fewer : n + length r ≤ length s
+
+abbrev pub StepReads : List ℕ → ℕ → List Token → Option (Bor (List ℕ) × ℕ) → Type 0
+StepReads s depth out (Some p) = Reading s p.0.now p.1 depth out
+StepReads s depth out None = tokens s ≡ malformed
+
+-- of s something is read, and by each byte one token at most
+abbrev pub Goes : List ℕ → ℕ → Option (Bor (List ℕ) × ℕ) → Type 0
+Goes s n (Some p) = (length p.0.now < length s) × (p.1 + length p.0.now ≤ n + length s)
+Goes s n None = Unit {0}
 
 -- the first n elements of a buffer are the text's tokens
-abbrev pub ListedIn : List ℕ → List ℕ → Option ℕ → Type 0
-ListedIn text out (Some n) = (tokens text ≡ got (take n out)) × (n ≤ length out)
+abbrev pub ListedIn : List ℕ → List Token → Option ℕ → Type 0
+ListedIn text out (Some n) = (tokens text ≡ got (numbers_of (take n out))) × (n ≤ length out)
 ListedIn text out None = tokens text ≡ malformed
 
--- ---- the tokens
+-- ---- a channel's tokens
+-- the ends of a range of numbers
+abbrev pub InBounds : ℤ → ℤ → Type 0
+InBounds low high = (number_of (token.Number low) ≤ last_number) × (number_of (token.Number high) ≤ last_number)
+
+abbrev pub is_within : ℤ → ℤ → Token → Bool
+is_within low high t = cond (leb (number_of (token.Number low)) (number_of t)) (leb (number_of t) (number_of (token.Number high))) false
+
 -- the numbers of a form and what comes after it
-abbrev pub part_in : List ℕ → ℕ → Option ℕ → Part
-part_in ts at (Some n) = part (take n (drop (at + 1) ts)) (drop (at + 1 + n + 1) ts)
-part_in ts at None = missing
-
-abbrev pub EndsIn : List ℕ → ℕ → Option ℕ → Type 0
-EndsIn ts at (Some n) = at + 1 + n < length ts
-EndsIn ts at None = Unit {0}
-
-pub record Holds (ts : List ℕ) (at : ℕ) (there : Part) (r : Option ℕ) : Type 0 where
-  pub shown : part_in ts at r ≡ there
-  pub within : EndsIn ts at r
+abbrev pub part_in : Option (Bor (List Token) × Bor (List Token)) → Part
+part_in (Some p) = part (numbers_of p.0.now) (numbers_of p.1.now)
+part_in None = missing
 
 -- six numbers of each of n vectors that stand one after the other
 unfoldable pub vector_numbers : ℕ → List ℕ → List ℕ
 vector_numbers zero ts = []
 vector_numbers (suc n) ts = take 6 (drop 1 ts) ++ vector_numbers n (drop 8 ts)
 
--- n vectors and the last bracket stand from a place on
-pub record Stands (ts : List ℕ) (at n : ℕ) (r : Bool) : Type 0 where
-  pub shown : cond r (part (vector_numbers n (drop at ts)) []) missing ≡ vectors n (drop at ts)
-  pub within : cond r (at + 8 * n < length ts) (Unit {0})
+-- n vectors and the last bracket
+pub record Stands (ts : List ℕ) (n : ℕ) (r : Bool) : Type 0 where
+  pub shown : cond r (part (vector_numbers n ts) []) missing ≡ vectors n ts
+  pub within : cond r (8 * n < length ts) (Unit {0})
 
-abbrev pub checked_in : List ℕ → Option Shape → TextChannel
-checked_in ts (Some p) = channel p.start p.end (map (λ t. t - largest) (take p.count (drop 6 ts))) (vector_numbers p.count (drop (p.count + 7) ts))
-checked_in ts None = none
+-- the shape, the row's numbers and the vectors
+abbrev pub checked_in : Option (Shape × Bor (List Token) × Bor (List Token)) → TextChannel
+checked_in (Some p) = channel p.0.start p.0.end (map (λ t. t - largest) (numbers_of p.1.now)) (vector_numbers p.0.count (numbers_of p.2.now))
+checked_in None = none
 
--- the n numbers of the row fit a byte
-abbrev pub RowNumbers : List ℕ → ℕ → Type 0
-RowNumbers ts n = (i : ℕ) → i < n → (largest ≤ get_or ts (6 + i) 0) × (get_or ts (6 + i) 0 ≤ largest + 255)
+abbrev pub IsRow : List Token → Type 0
+IsRow ts = (length ts ≤ 256) × AllIn largest (largest + 255) (numbers_of ts)
 
--- the n vectors from a place on hold numbers
-abbrev pub VectorsIn : List ℕ → ℕ → ℕ → Type 0
-VectorsIn ts at n = (i : ℕ) → i < 6 * n → get_or (vector_numbers n (drop at ts)) i 0 ≤ last_number
+abbrev pub AreVectors : ℕ → List Token → Type 0
+AreVectors n ts = (8 * n < length ts) × AllIn 0 last_number (vector_numbers n (numbers_of ts))
 
--- all of them stand within the tokens
-abbrev pub IsFitting : List ℕ → Option Shape → Type 0
-IsFitting ts (Some p) = (p.count ≤ 256) × (p.count + 7 + 8 * p.count < length ts) × RowNumbers ts p.count × VectorsIn ts (p.count + 7) p.count
-IsFitting ts None = Unit {0}
+abbrev pub IsFitting : Option (Shape × Bor (List Token) × Bor (List Token)) → Type 0
+IsFitting (Some p) = (p.0.count ≡ length p.1.now) × IsRow p.1.now × AreVectors p.0.count p.2.now
+IsFitting None = Unit {0}
 
-pub record Checks (ts : List ℕ) (there : TextChannel) (r : Option Shape) : Type 0 where
-  pub shown : checked_in ts r ≡ there
-  pub fits : IsFitting ts r
+pub record Checks (there : TextChannel) (r : Option (Shape × Bor (List Token) × Bor (List Token))) : Type 0 where
+  pub shown : checked_in r ≡ there
+  pub fits : IsFitting r
 
 -- ---- the answer
 -- the planner gives this plan

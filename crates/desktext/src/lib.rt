@@ -24,29 +24,32 @@ pub struct Shape {
     pub count: usize,
 }
 
-// How a plan is printed: with its field, or on pages.
+// How a plan is printed: with its field, or on pages. Two cases that never grow: a closure would say the same by F.post.
 #[derive(Clone, Copy)]
 pub enum View {
     WithField,
     OnPages,
 }
 
-// Tokens: the number k is LARGEST + k, up to LAST_NUMBER; LAST_ROW is 255. The brackets come after them.
+// The names of forms.
+#[derive(Clone, Copy, PartialEq, Eq)]
+pub enum Name {
+    Channel,
+    Bins,
+    Row,
+    Vector,
+}
+
+// What a text is made of: numbers, and brackets, of which one that opens a form has its name.
+#[derive(Clone, Copy)]
+pub enum Token {
+    Number(i32),
+    Open(Name),
+    Close,
+}
+
+// No number of a text is larger in size.
 const LARGEST: u32 = 16777216;
-
-const LAST_ROW: u32 = 16777471;
-
-const LAST_NUMBER: u32 = 33554432;
-
-const CHANNEL: u32 = 33554433;
-
-const BINS: u32 = 33554434;
-
-const ROW: u32 = 33554435;
-
-const VECTOR: u32 = 33554436;
-
-const CLOSE: u32 = 33554437;
 
 // No channel's text is longer: it has 2,312 tokens of ten bytes at most, and a last line end.
 const LONGEST: usize = 23121;
@@ -54,11 +57,10 @@ const LONGEST: usize = 23121;
 // A channel's text, with room to work in.
 fn read_with(
     text: &[u8],
-    row: &mut [u8],
-    vectors: &mut [f32],
-    work: &mut [u32],
+    row: &mut [u8; 256],
+    vectors: &mut [f32; 1536],
+    work: &mut [Token; LONGEST],
 ) -> Result<Shape, Refusal>
-    requires { (256 ≤ length row.old) × (1536 ≤ length vectors.old) × (longest ≤ length work.old) }
     ensures value { result ≡ text_answer (channel_in text.now) }
     ensures row_after { row.new ≡ row_after (channel_in text.now) row.old }
     ensures vectors_after { vectors.new ≡ vectors_after (channel_in text.now) vectors.old }
@@ -81,27 +83,25 @@ pub fn read_text(
     ensures row_after { row.new ≡ row_after (channel_in text.now) row.old }
     ensures vectors_after { vectors.new ≡ vectors_after (channel_in text.now) vectors.old }
 {
-    let mut work = [0u32; LONGEST];
+    let mut work = [Token::Close; LONGEST];
     read_with(text, row, vectors, &mut work)
 }
 
 // The planner's plan with its field goes to the front of the output as text: how many bytes that is.
 fn print_with_field(
-    out: &mut [u8],
+    out: &mut [u8; 32768],
     plan: Plan,
     row: &[u8],
     start: usize,
     end: usize,
     x: &[f32],
-    field: &mut [u8],
 ) -> Result<usize, Refusal>
-    requires in_bounds { 32768 ≤ length out.old }
-    requires field_value { field.old ≡ replicate 8192 0 }
-    requires given { Given plan row.now start end x.now }
+    requires { Given plan row.now start end x.now }
     ensures { Prints (view_of WithField plan row.now start end x.now) out.old out.new result }
 {
+    let mut field = [0u8; 8192];
     let p = BitPos { byte: 0, bit: 0 };
-    writer::write_aht_channel(plan, row, start, end, x, field, p)?;
+    writer::write_aht_channel(plan, row, start, end, x, &mut field, p)?;
     let n = (2 + plan.payload as usize + 7) / 8;
     Ok(plantext::print_plan(out, plan, &field[..n]))
 }
@@ -109,20 +109,17 @@ fn print_with_field(
 // The plan of the bins start to end - 1, as it is to be seen.
 fn print_channel(
     view: View,
-    out: &mut [u8],
+    out: &mut [u8; 32768],
     row: &[u8],
     start: usize,
     end: usize,
     x: &[f32],
-    field: &mut [u8],
 ) -> Result<usize, Refusal>
-    requires in_bounds { 32768 ≤ length out.old }
-    requires field_value { field.old ≡ replicate 8192 0 }
     ensures { Prints (plan_answer view row.now start end x.now) out.old out.new result }
 {
     let plan = planner::plan_aht_channel(row, start, end, x)?;
     match view {
-        View::WithField => print_with_field(out, plan, row, start, end, x, field),
+        View::WithField => print_with_field(out, plan, row, start, end, x),
         View::OnPages => pages::print_pages(plan, row, start, end, x, out),
     }
 }
@@ -131,13 +128,10 @@ fn print_channel(
 fn print_text(
     view: View,
     text: &[u8],
-    out: &mut [u8],
+    out: &mut [u8; 32768],
     row: &mut [u8; 256],
     vectors: &mut [f32; 1536],
-    field: &mut [u8],
 ) -> Result<usize, Refusal>
-    requires in_bounds { 32768 ≤ length out.old }
-    requires field_value { field.old ≡ replicate 8192 0 }
     ensures { Prints (desk_answer view text.now) out.old out.new result }
 {
     let shape = read_text(text, row, vectors)?;
@@ -150,7 +144,6 @@ fn print_text(
         start,
         end,
         &vectors[..6 * shape.count],
-        field,
     )
 }
 
@@ -162,14 +155,14 @@ pub fn desk(view: View, text: &[u8], out: &mut [u8; 32768]) -> usize
 {
     let mut row = [0u8; 256];
     let mut vectors = [0.0f32; 1536];
-    let mut field = [0u8; 8192];
-    match print_text(view, text, out, &mut row, &mut vectors, &mut field) {
+    match print_text(view, text, out, &mut row, &mut vectors) {
         Ok(n) => n,
         Err(k) => plantext::print_refused(out, k.number()),
     }
 }
 
 // The same of a text that is the first n bytes of an input, or all of it where it has no more. The answer fits.
+// n stands beside the input, since it may be above its length.
 pub fn desk_from(view: View, input: &[u8], n: usize, out: &mut [u8; 32768]) -> usize
     ensures value { result ≡ length (desk_answer view (take n input.now)) }
     ensures out_after { out.new ≡ splice out.old 0 (desk_answer view (take n input.now)) }

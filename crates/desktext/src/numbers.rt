@@ -1,61 +1,75 @@
 // Numbers of the desk text, by their digits.
-ghost use Rattle.std.specs.Prelude.{◌+◌, ◌≤◌, length, drop, ◌≡◌};
+ghost use Rattle.std.specs.Prelude.{◌<◌, ◌≤◌, ◌≡◌, length, IfSome};
 ghost use Rattle.desktext.specs.Spelling.{largest, last_number};
-ghost use Rattle.desktext.specs.Text.{digits, natural, number_seen};
-ghost use Rattle.desktext.specs.Work.{Finds};
+ghost use Rattle.desktext.specs.Text.{digits, natural, above, below, number_seen};
+ghost use Rattle.desktext.specs.Work.{Counts, Finds};
 
-use super::LARGEST;
+use super::{LARGEST, Token};
 
 // The digit 0, as a byte.
 const ZERO: u8 = 48;
 
-// The digits from a place on, after those of v.
-fn digits_at(text: &[u8], at: usize, v: u32) -> Option<(u32, usize)>
-    requires { (at ≤ length text.now) × (v ≤ largest) }
-    ensures { Finds text.now at largest (digits v (drop at text.now)) result }
+// The digits at the front of a text, after those of v, and the text behind them. std's `parse` is no help: it asks for a
+// str that ends with the number, and takes a plus and leading zeros.
+fn digits(text: &[u8], v: u32) -> Option<(u32, &[u8])>
+    requires { v ≤ largest }
+    ensures { Counts text.now (digits v text.now) result }
 {
     let mut value = v;
-    for p in at..text.len() {
-        let b = text[p];
-        if b < b'0' || b'9' < b {
-            return Some((value, p));
+    for (n, b) in text.iter().enumerate() {
+        if *b < b'0' || b'9' < *b {
+            return Some((value, &text[n..]));
         }
-        let next = value * 10 + u32::from(b - b'0');
+        let next = value * 10 + u32::from(*b - b'0');
         if LARGEST < next {
             return None;
         }
         value = next;
     }
-    Some((value, text.len()))
+    Some((value, &text[text.len()..]))
 }
 
 // A number's digits, with no leading zero.
-fn natural_at(text: &[u8], at: usize) -> Option<(u32, usize)>
-    requires { at ≤ length text.now }
-    ensures { Finds text.now (at + 1) largest (natural (drop at text.now)) result }
+#[tactic(auto, unfolding(crate::specs::Text::natural))]
+fn natural(text: &[u8]) -> Option<(u32, &[u8])>
+    ensures counts { Counts text.now (natural text.now) result }
+    ensures shorter { IfSome result (λ p. length p.1.now < length text.now) }
 {
-    let b = *text.get(at)?;
-    if b == ZERO {
-        return Some((0, at + 1));
+    match text {
+        [ZERO, rest @ ..] => Some((0, rest)),
+        [b @ b'1'..=b'9', rest @ ..] => digits(rest, u32::from(*b - b'0')),
+        _ => None,
     }
-    if b < b'0' || b'9' < b {
-        return None;
-    }
-    digits_at(text, at + 1, u32::from(b - b'0'))
 }
 
-// A number with its sign.
-pub fn number_at(text: &[u8], at: usize) -> Option<(u32, usize)>
-    requires { at ≤ length text.now }
-    ensures { Finds text.now (at + 1) last_number (number_seen (drop at text.now)) result }
+// A number without a sign.
+#[tactic(auto, unfolding(crate::specs::Work::number_of))]
+fn above(text: &[u8]) -> Option<(Token, &[u8])>
+    ensures { Finds text.now (above (natural text.now)) result }
 {
-    if *text.get(at)? != b'-' {
-        let (m, q) = natural_at(text, at)?;
-        return Some((LARGEST + m, q));
-    }
-    let (m, q) = natural_at(text, at + 1)?;
+    let (m, rest) = natural(text)?;
+    Some((Token::Number(m as i32), rest))
+}
+
+// A number behind its minus: it is not 0.
+#[tactic(auto, unfolding(crate::specs::Work::number_of))]
+fn below(text: &[u8]) -> Option<(Token, &[u8])>
+    ensures { Finds text.now (below (natural text.now)) result }
+{
+    let (m, rest) = natural(text)?;
     if m == 0 {
         return None;
     }
-    Some((LARGEST - m, q))
+    Some((Token::Number(-(m as i32)), rest))
+}
+
+// A number with its sign.
+#[tactic(auto, unfolding(crate::specs::Text::natural, crate::specs::Text::number_seen))]
+pub fn number(text: &[u8]) -> Option<(Token, &[u8])>
+    ensures { Finds text.now (number_seen text.now) result }
+{
+    match text {
+        [b'-', size @ ..] => below(size),
+        _ => above(text),
+    }
 }

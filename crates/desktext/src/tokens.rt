@@ -1,128 +1,132 @@
 // The bytes of a desk text read as tokens.
-ghost use Rattle.std.specs.Prelude.{◌+◌, ◌-◌, ◌≤◌, ◌≡◌, length, drop};
-ghost use Rattle.desktext.specs.Spelling.{close_token};
-ghost use Rattle.desktext.specs.Text.{leads, named, item_head, bracket, closing};
-ghost use Rattle.desktext.specs.Work.{ListedIn, Finds, StepReads, FormAt, ItemAt};
+ghost use Rattle.std.specs.Prelude.{◌+◌, ◌-◌, ◌≤◌, ◌<◌, ◌≡◌, List, ℕ, [], cond, length};
+ghost use Rattle.desktext.specs.Text.{named, item_head, bracket, closing, unseen, ending, got, malformed};
+ghost use Rattle.desktext.specs.Work.{ListedIn, Finds, word_seen, Goes, Reading, StepReads};
 
-use super::{BINS, CHANNEL, CLOSE, LAST_NUMBER, ROW, VECTOR, numbers};
+use super::{Name, Token, numbers};
 
 // The byte that ends a line.
 const LINE_END: u8 = 10;
 
-// Whether the word stands at a place of the text.
-fn word_at(text: &[u8], at: usize, word: &[u8]) -> bool
-    requires { at ≤ length text.now }
-    ensures { result ≡ leads word.now (drop at text.now) }
+// An opening bracket with its name, if that word is at the front of the text, and the text behind it.
+fn word<'a>(text: &'a [u8], word: &[u8], name: Name) -> Option<(Token, &'a [u8])>
+    requires { 0 < length word.now }
+    ensures { Finds text.now (word_seen text.now word.now name) result }
 {
-    text[at..].starts_with(word)
+    let rest = text.strip_prefix(word)?;
+    Some((Token::Open(name), rest))
 }
 
-// An opening bracket with its name: its token and the place after it.
-fn name_at(text: &[u8], at: usize) -> Option<(u32, usize)>
-    requires { at ≤ length text.now }
-    ensures { Finds text.now (at + 1) close_token (named (drop at text.now)) result }
+// An opening bracket with one of the names.
+fn named(text: &[u8]) -> Option<(Token, &[u8])>
+    ensures { Finds text.now (named text.now) result }
 {
-    if word_at(text, at, b"(channel") {
-        return Some((CHANNEL, at + 8));
+    if let Some(found) = word(text, b"(channel", Name::Channel) {
+        return Some(found);
     }
-    if word_at(text, at, b"(bins") {
-        return Some((BINS, at + 5));
+    if let Some(found) = word(text, b"(bins", Name::Bins) {
+        return Some(found);
     }
-    if word_at(text, at, b"(row") {
-        return Some((ROW, at + 4));
+    if let Some(found) = word(text, b"(row", Name::Row) {
+        return Some(found);
     }
-    if word_at(text, at, b"(vector") {
-        return Some((VECTOR, at + 7));
-    }
-    None
+    word(text, b"(vector", Name::Vector)
 }
 
 // An item's beginning after its separator: a form's bracket and name, or a number.
-fn head_at(text: &[u8], at: usize) -> Option<(u32, usize)>
-    requires { at ≤ length text.now }
-    ensures { Finds text.now (at + 1) close_token (item_head (drop at text.now)) result }
+#[tactic(auto, unfolding(crate::specs::Text::item_head))]
+fn head(text: &[u8]) -> Option<(Token, &[u8])>
+    ensures { Finds text.now (item_head text.now) result }
 {
-    let b = *text.get(at)?;
-    if b != b' ' && b != LINE_END {
+    let [b' ' | LINE_END, rest @ ..] = text else {
         return None;
-    }
-    match name_at(text, at + 1) {
+    };
+    match named(rest) {
         Some(name) => Some(name),
-        None => numbers::number_at(text, at + 1),
+        None => numbers::number(rest),
     }
 }
 
 // A closing bracket.
-fn bracket_at(text: &[u8], at: usize) -> Option<(u32, usize)>
-    requires { at ≤ length text.now }
-    ensures { Finds text.now (at + 1) close_token (bracket (drop at text.now)) result }
+#[tactic(auto, unfolding(crate::specs::Text::bracket, crate::specs::Work::number_of))]
+fn bracket(text: &[u8]) -> Option<(Token, &[u8])>
+    ensures { Finds text.now (bracket text.now) result }
 {
-    if *text.get(at)? != b')' {
-        return None;
+    match text {
+        [b')', rest @ ..] => Some((Token::Close, rest)),
+        _ => None,
     }
-    Some((CLOSE, at + 1))
 }
 
 // A closing bracket, before which one line end may stand.
-fn closing_at(text: &[u8], at: usize) -> Option<(u32, usize)>
-    requires { at ≤ length text.now }
-    ensures { Finds text.now (at + 1) close_token (closing (drop at text.now)) result }
+#[tactic(auto, unfolding(crate::specs::Text::closing))]
+fn closing(text: &[u8]) -> Option<(Token, &[u8])>
+    ensures { Finds text.now (closing text.now) result }
 {
-    if *text.get(at)? == 10 {
-        return bracket_at(text, at + 1);
+    match text {
+        [LINE_END, rest @ ..] => bracket(rest),
+        _ => bracket(text),
     }
-    bracket_at(text, at)
 }
 
-// The items of a form after its name, up to its closing bracket, of which `levels` more may be open: the place after
-// them, and how many tokens there are now.
+// The items of a form after its name, up to its closing bracket, of which `levels` more may be open: the text behind
+// them, and how many tokens there are now, since the list is an array (no heap). The loop ends on what it reads.
 #[cycle(form_item)]
-fn form(text: &[u8], at: usize, levels: usize, out: &mut [u32], n: usize) -> Option<(usize, usize)>
-    requires { FormAt text.now at levels n out.old }
-    ensures { StepReads text.now at (3 - levels) out.new result }
+fn form<'a>(text: &'a [u8], levels: usize, out: &mut [Token], n: usize) -> Option<(&'a [u8], usize)>
+    requires { (levels ≤ 3) × (n + length text.now ≤ length out.old) }
+    ensures goes { Goes text.now n result }
+    ensures reads { (s : List ℕ) → Reading s text.now n (4 - levels) out.old → StepReads s (3 - levels) out.new result }
 {
-    let mut p = at;
+    let mut rest = text;
     let mut m = n;
     loop {
-        if let Some((t, q)) = closing_at(text, p) {
+        if let Some((t, after)) = closing(rest) {
             out[m] = t;
-            return Some((q, m + 1));
+            return Some((after, m + 1));
         }
-        (p, m) = item(text, p, levels, &mut *out, m)?;
+        let (after, k) = item(rest, levels, &mut *out, m)?;
+        rest = after;
+        m = k;
     }
 }
 
 // One item of a form: a number, or a form of one level less.
 #[cycle(form_item)]
-fn item(text: &[u8], at: usize, levels: usize, out: &mut [u32], n: usize) -> Option<(usize, usize)>
-    requires { ItemAt text.now at levels n out.old }
-    ensures { StepReads text.now at (4 - levels) out.new result }
+fn item<'a>(text: &'a [u8], levels: usize, out: &mut [Token], n: usize) -> Option<(&'a [u8], usize)>
+    requires { (levels ≤ 3) × (n + length text.now ≤ length out.old) × (closing text.now ≡ unseen) }
+    ensures goes { Goes text.now n result }
+    ensures reads { (s : List ℕ) → Reading s text.now n (4 - levels) out.old → StepReads s (4 - levels) out.new result }
 {
-    let (t, q) = head_at(text, at)?;
-    if t <= LAST_NUMBER {
+    let (t, rest) = head(text)?;
+    if let Token::Number(_) = t {
         out[n] = t;
-        return Some((q, n + 1));
+        return Some((rest, n + 1));
     }
     if levels == 0 {
         return None;
     }
     out[n] = t;
-    form(text, q, levels - 1, out, n + 1)
+    form(rest, levels - 1, out, n + 1)
+}
+
+// Whether a text ends here, but for one line end.
+#[tactic(auto, unfolding(crate::specs::Text::ending))]
+fn is_end(text: &[u8]) -> bool
+    ensures { ending text.now ≡ cond result (got []) malformed }
+{
+    match text {
+        [] | [LINE_END] => true,
+        _ => false,
+    }
 }
 
 // The tokens of a text, and how many they are.
-pub fn tokens_in(text: &[u8], out: &mut [u32]) -> Option<usize>
+pub fn tokens_in(text: &[u8], out: &mut [Token]) -> Option<usize>
     requires { length text.now ≤ length out.old }
     ensures { ListedIn text.now out.new result }
 {
-    let (t, q) = name_at(text, 0)?;
+    let (t, rest) = named(text)?;
     out[0] = t;
-    let (p, n) = form(text, q, 3, &mut *out, 1)?;
-    if p == text.len() {
-        return Some(n);
-    }
-    if text.len() - p != 1 || text[p] != 10 {
-        return None;
-    }
-    Some(n)
+    let (end, n) = form(rest, 3, &mut *out, 1)?;
+    if is_end(end) { Some(n) } else { None }
 }

@@ -32,6 +32,7 @@ pub extern "C" fn fathrugg_plan_aht_channel(
         Err(k) => k.number(),
         Ok(p) => {
             *mode = p.mode;
+            // by way of a variable: a field's array is not stored straight away
             let all = p.gains;
             *gains = all;
             *count = p.count;
@@ -126,6 +127,7 @@ pub extern "C" fn fathrugg_read_aht_channel(
         Err(k) => k.number(),
         Ok(c) => {
             *mode = c.mode;
+            // by way of a variable: a field's array is not stored straight away
             let all = c.gains;
             *gains = all;
             *count = c.count;

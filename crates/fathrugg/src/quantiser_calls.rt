@@ -27,6 +27,7 @@ pub extern "C" fn fathrugg_vq_search(hebap: u8, x: &[f32; 6], index: &mut usize)
     store(books::vq_search(hebap, x), index)
 }
 
+// 1 for a large code, 0 for a small one, as C is told of it.
 fn large_of(code: Code) -> u8
     ensures { result ≡ large_of code }
 {
@@ -36,6 +37,7 @@ fn large_of(code: Code) -> u8
     }
 }
 
+// The bits of a code, large or small.
 fn code_of(code: Code) -> u32
     ensures { result ≡ code_of code }
 {
@@ -89,6 +91,7 @@ pub extern "C" fn fathrugg_quantise_bin(
     match quantiser::quantise_bin(hebap, gk, x) {
         Err(k) => k.number(),
         Ok(b) => {
+            // by way of a variable: a field's array is not stored straight away
             let six = b.values;
             *values = six;
             *bits = b.bits;

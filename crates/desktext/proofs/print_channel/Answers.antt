@@ -1,4 +1,5 @@
 -- `desktext::print_channel` meets its contract. Assumes nothing.
+use native.Mathlib.Nat.{le_of_eq}
 use mathlib.Core.Path.{◌≡◌, refl, sym, ◌∙◌}
 use Rattle.answers.proofs.Numbers.{passed_on}
 use Rattle.desktext.specs.Desk.{view_of, plan_answer}
@@ -31,4 +32,4 @@ returns-in-OnPages c =
     let d = (goal.at.returns-in-OnPages c).In_ok-plan in
     let e = rw c.in-OnPages.is at (shown d) in
     let u = c.print_pages.ensures in
-    rw (c.in-OnPages.is, sym e) (pages_given c.in_ok-plan.plan a.row.now a.start a.end a.x.now (given d) a.out.now c.requires.in_bounds _ _ u.value u.out_after)
+    rw (c.in-OnPages.is, sym e) (pages_given c.in_ok-plan.plan a.row.now a.start a.end a.x.now (given d) a.out.now (le_of_eq (sym c.told-out)) _ _ u.value u.out_after)

@@ -1,36 +1,40 @@
 -- `desktext::print_with_field` meets its contract. Assumes nothing.
+use Prim.Native.Nat.{◌+◌, ◌/◌}
+use Rattle.planner.specs.Planning.{total_of}
 use native.Mathlib.Omega.{arith}
 use native.Mathlib.Nat.{le_trans, le_of_eq}
-use mathlib.Core.Path.{sym, ap, ◌∙◌}
-use lib.ListN.{length}
+use mathlib.Core.Path.{◌≡◌, refl, sym, ap, ◌∙◌}
+use lib.ListN.{length, take, replicate}
 use lib.Seq.{length-take-le}
 use Rattle.bits.specs.Bits.{splice}
 use Rattle.desktext.proofs.Answers.{few_gains, few_bits, never_refused, bytes_fit, plan_given}
 use Rattle.desktext.proofs.print_with_field.Goals as goal
+use Rattle.desktext.proofs.print_with_field.Goals.{In_ok-write_aht_channel}
 
 pub returns-in_err-write_aht_channel : goal.returns-in_err-write_aht_channel
 returns-in_err-write_aht_channel c = let a = c.args in
-    absurd (never_refused a.plan a.row.now a.start a.end a.x.now c.requires.given a.field.now c.requires.field_value
+    absurd (never_refused a.plan a.row.now a.start a.end a.x.now c.requires (replicate 8192 0) refl
     c.write_aht_channel.result _ c.write_aht_channel.ensures.value c.in_err-write_aht_channel.was)
 
-pub slice_bounds-print_plan-end : goal.slice_bounds-print_plan-end
-slice_bounds-print_plan-end c = let a = c.args in
-    bytes_fit a.plan a.row.now a.start a.end a.x.now c.requires.given a.field.now c.requires.field_value
-    c.write_aht_channel.new.out c.write_aht_channel.ensures.out_after
+pub slice_bounds-field-end : goal.slice_bounds-field-end
+slice_bounds-field-end c = let a = c.args in let b = few_bits a.plan a.row.now a.start a.end a.x.now c.requires in omega arith
+
+-- the field's bytes are that many
+bytes : (c : In_ok-write_aht_channel) → let n = (total_of c.args.plan + 7) / 8 in length (take n c.write_aht_channel.new.out) ≡ n
+bytes c = let a = c.args in
+    length-take-le _ _ (bytes_fit a.plan a.row.now a.start a.end a.x.now c.requires (replicate 8192 0) refl c.write_aht_channel.new.out c.write_aht_channel.ensures.out_after)
 
 pub slice_bounds-print_plan-end-2 : goal.slice_bounds-print_plan-end-2
-slice_bounds-print_plan-end-2 c = sym (length-take-le _ _ (slice_bounds-print_plan-end c))
+slice_bounds-print_plan-end-2 c = sym (bytes (goal.at.slice_bounds-print_plan-end-2 c).In_ok-write_aht_channel)
 
 pub print_plan-requires : goal.print_plan-requires
 print_plan-requires c = let a = c.args in
-    let b = few_bits a.plan a.row.now a.start a.end a.x.now c.requires.given in
-    let l = slice_bounds-print_plan-end-2 c in
-    (few_gains a.plan a.row.now a.start a.end a.x.now c.requires.given, omega arith, le_trans (le_of_eq (sym l)) (omega arith), c.requires.in_bounds)
+    let b = few_bits a.plan a.row.now a.start a.end a.x.now c.requires in
+    let l = bytes (goal.at.print_plan-requires c).In_ok-write_aht_channel in
+    (few_gains a.plan a.row.now a.start a.end a.x.now c.requires, omega arith, le_trans (le_of_eq l) (omega arith), le_of_eq (sym c.told-out))
 
 pub returns : goal.returns
 returns c = let a = c.args in
-    let e =
-    plan_given a.plan a.row.now a.start a.end a.x.now c.requires.given a.field.now c.requires.field_value
-    c.write_aht_channel.new.out c.write_aht_channel.ensures.out_after in
+    let e = plan_given a.plan a.row.now a.start a.end a.x.now c.requires (replicate 8192 0) refl c.write_aht_channel.new.out c.write_aht_channel.ensures.out_after in
     let u = c.print_plan.ensures in
     (u.value ∙ ap length e, u.out_after ∙ ap (splice a.out.now 0) e)

@@ -1,25 +1,24 @@
 -- `desktext::channels::value` meets its contract. Assumes nothing.
-use Prim.Native.Nat.{◌-◌, ◌≤◌, ◌^◌}
 use native.Mathlib.Omega.{arith}
-use lib.Dec.{le→leb}
-use lib.Ieee.{in_float}
-use borrow.Author.Tests.{le-leb, lt-leb}
-use Rattle.desktext.specs.Spelling.{largest}
-use Rattle.desktext.specs.Printed.{component_of}
+use mathlib.Core.Path.{◌≡◌}
+use Rattle.std.proofs.Common.{rules, w32, to_z, of_z}
+use Rattle.desktext.proofs.Signed.{size_small, minus_value, plain_value, bracket_large}
 use Rattle.desktext.proofs.channels.value.Goals as goal
 
-pub int_to_float-result : goal.int_to_float-result
-unfolding in_float
-int_to_float-result c = let h : c.args.t - largest ≤ 2 ^ 24 = omega arith in le→leb _ _ h
+pub int_to_float-size : goal.int_to_float-size
+int_to_float-size c =
+    let k : to_z w32 (of_z w32 c.in-Number.k) ≡ c.in-Number.k = search rules in
+    size_small _ _ _ c.in-Number.is c.requires (rw k at c.unsigned_abs.ensures.value)
 
-pub returns-then-t-ge-LARGEST : goal.returns-then-t-ge-LARGEST
-unfolding component_of
-returns-then-t-ge-LARGEST c = rw (le-leb largest c.args.t c.if-t-ge-LARGEST.true)
+pub returns-then-k-lt0 : goal.returns-then-k-lt0
+returns-then-k-lt0 c =
+    let k : to_z w32 (of_z w32 c.in-Number.k) ≡ c.in-Number.k = search rules in
+    minus_value _ _ _ c.in-Number.is c.requires (rw k at c.unsigned_abs.ensures.value) (rw k at c.if-k-lt0.true)
 
-pub int_to_float-result-2 : goal.int_to_float-result-2
-unfolding in_float
-int_to_float-result-2 c = let h : largest - c.args.t ≤ 2 ^ 24 = omega arith in le→leb _ _ h
+pub returns-else-k-lt0 : goal.returns-else-k-lt0
+returns-else-k-lt0 c =
+    let k : to_z w32 (of_z w32 c.in-Number.k) ≡ c.in-Number.k = search rules in
+    plain_value _ _ _ c.in-Number.is c.requires (rw k at c.unsigned_abs.ensures.value) (rw k at c.if-k-lt0.false)
 
-pub returns : goal.returns
-unfolding component_of
-returns c = rw (lt-leb largest c.args.t c.if-t-ge-LARGEST.false)
+pub returns-in_default : goal.returns-in_default
+returns-in_default c = let h = c.requires in let l = bracket_large _ c.in_default.not-Number in absurd (omega arith)

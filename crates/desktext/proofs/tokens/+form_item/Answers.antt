@@ -1,34 +1,50 @@
 -- `desktext::form` and `desktext::item` meet their contracts, which are one: what was read so far, with what is read
 -- from here, is the whole. Assumes nothing.
 use native.Mathlib.Omega.{arith}
-use Rattle.desktext.specs.Work.{FormAt}
-use Rattle.desktext.proofs.Steps.{on_close_lem, on_number, on_form, on_deep, on_none}
+use Prim.Native.Nat.{ℕ, ◌+◌, ◌-◌, ◌≤◌}
+use mathlib.Core.Path.{◌≡◌, subst}
+use lib.ListN.{length}
+use Rattle.desktext.specs.Work.{StepReads}
+use Rattle.desktext.proofs.Signed.{bracket_large, number_small}
+use Rattle.desktext.proofs.Steps.{on_close_lem, on_number, on_form, on_deep, on_none, form_goes}
 use Rattle.desktext.proofs.tokens.+form_item.Goals as goal
 
-pub form-returns-in-Some : goal.form-returns-in-Some
-form-returns-in-Some t c =
+pub form-returns-in-Some-clause-reads : goal.form-returns-in-Some-clause-reads
+form-returns-in-Some-clause-reads t c = λ s h.
     let l = c.loop-t in
-    let here : FormAt c.args.text.now l.p c.args.levels l.m l.out = record { reading = l.invariant.0; few = c.requires.few; room = omega (arith, l.invariant.2, c.requires.room) } in
-    let h = c.in-Some.ensures.onward in
-    (omega arith, on_close_lem _ _ _ _ _ here _ _ h.0 h.1 c.in-Some.ensures.shown)
+    let a = l.invariant.2 in
+    let b = l.invariant.3 in
+    let r = c.requires.1 in
+    let room : l.m + length l.rest.now ≤ length l.out = omega arith in
+    on_close_lem s l.rest.now c.args.levels l.m l.out c.requires.0 room (l.invariant.0 s h) _ _ c.in-Some.ensures.onward.0 c.in-Some.ensures.shown
 
-pub item-returns-in_err-t : goal.item-returns-in_err-t
-item-returns-in_err-t t c = rw c.from_residual.ensures (on_none _ _ _ _ _ c.requires.in_form c.requires.unclosed c.in_err-t.ensures.shown)
+pub item-returns-in_err-t-clause-reads : goal.item-returns-in_err-t-clause-reads
+item-returns-in_err-t-clause-reads t c = λ s h. rw c.from_residual.ensures (on_none s _ _ _ _ c.requires.0 c.requires.1 h c.requires.2 c.in_err-t.ensures.shown)
 
-pub item-returns-then-t-le-LAST_NUMBER : goal.item-returns-then-t-le-LAST_NUMBER
-item-returns-then-t-le-LAST_NUMBER t c =
+pub item-returns-in-Number-clause-reads : goal.item-returns-in-Number-clause-reads
+item-returns-in-Number-clause-reads t c = λ s h.
     let p = c.requires in
-    let h = c.in_ok-t.ensures.onward in
-    (omega arith, on_number _ _ _ _ _ p.in_form _ _ h.0 h.1 p.unclosed c.in_ok-t.ensures.shown c.if-t-le-LAST_NUMBER.true)
+    let f = c.in_ok-t.ensures in
+    on_number s _ _ _ _ p.0 p.1 h _ _ f.onward.0 p.2 f.shown (number_small _ _ c.in-Number.is f.onward.1)
 
 pub item-returns-then-levels-eq0 : goal.item-returns-then-levels-eq0
 item-returns-then-levels-eq0 t c =
     let p = c.requires in
-    let h = c.in_ok-t.ensures.onward in
-    on_deep _ _ _ _ _ p.in_form _ _ h.0 h.1 p.unclosed c.in_ok-t.ensures.shown c.if-t-le-LAST_NUMBER.false c.if-levels-eq0.true
+    let f = c.in_ok-t.ensures in
+    record {
+      goes = tt;
+      reads = λ s h. on_deep s _ _ _ _ p.0 p.1 h _ _ f.onward.0 p.2 f.shown (bracket_large _ c.in_default.not-Number) c.if-levels-eq0.true;
+    }
 
-pub item-form-requires : goal.item-form-requires
-item-form-requires t c =
+pub item-returns : goal.item-returns
+item-returns t c =
     let p = c.requires in
-    let h = c.in_ok-t.ensures.onward in
-    (omega arith, on_form _ _ _ _ _ p.in_form _ _ h.0 h.1 p.unclosed c.in_ok-t.ensures.shown c.if-t-le-LAST_NUMBER.false (omega arith))
+    let f = c.in_ok-t.ensures in
+    let n = c.args.levels in
+    let i = p.0 in
+    let j = c.if-levels-eq0.false in
+    let e : 3 - (n - 1) ≡ 4 - n = omega arith in
+    record {
+      goes = form_goes _ _ _ _ f.onward.0 c.form.ensures.goes;
+      reads = λ s h. subst (λ (k : ℕ). StepReads s k c.form.new.out c.form.result) e (c.form.ensures.reads s (on_form s _ _ _ _ p.0 p.1 h _ _ f.onward.0 p.2 f.shown (bracket_large _ c.in_default.not-Number) (omega arith)));
+    }

@@ -1,6 +1,7 @@
 -- A form calls item with its levels, and an item calls form with one level less.
-use Prim.Native.Nat.{◌+◌, ◌-◌, ◌≤◌}
+use Prim.Native.Nat.{ℕ, ◌+◌, ◌-◌, ◌≤◌}
 use mathlib.Core.Path.{◌≡◌}
+use mathlib.Core.List.{List}
 use lib.ListN.{length}
 use Rattle.desktext.specs.Work.{Reading}
 use Rattle.desktext.proofs.tokens.+form_item.Given as goal
@@ -12,7 +13,7 @@ abbrev pub decreases-item : goal.decreases-item
 decreases-item l = l.levels + l.levels
 
 abbrev pub invariant-form-loop-t : goal.invariant-form-loop-t
-invariant-form-loop-t l = Reading l.text l.p l.m (4 - l.levels) l.out × (l.fn.at ≤ l.p) × (length l.out ≡ length l.fn.out)
+invariant-form-loop-t l = ((s : List ℕ) → Reading s l.fn.text l.fn.n (4 - l.levels) l.fn.out → Reading s l.rest l.m (4 - l.levels) l.out) × (length l.rest ≤ length l.fn.text) × (l.m + length l.rest ≤ l.fn.n + length l.fn.text) × (length l.out ≡ length l.fn.out)
 
 abbrev pub decreases-form-loop-t : goal.decreases-form-loop-t
-decreases-form-loop-t l = length l.text - l.p
+decreases-form-loop-t l = length l.rest
