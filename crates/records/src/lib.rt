@@ -3,12 +3,12 @@
 // the count of answers. A place behind the end holds 0.
 #![tactic(auto)]
 
-ghost use Rattle.std.specs.Prelude.{◌≡◌, ◌<◌, ◌&&◌, take, drop, MatchResult};
+ghost use Rattle.std.specs.Prelude.{◌≡◌, ◌<◌, ◌≤◌, ◌+◌, ◌*◌, ◌&&◌, ◌↔◌, ℕ, IfSome, true, length, slice_get, take, drop, MatchResult};
 ghost use Rattle.std.specs.Bool.{OnTrue};
 ghost use Rattle.std.specs.Result.{ForOk};
 ghost use Rattle.std.specs.Io.KnownBytes.{Consumes};
 ghost use Rattle.answers.specs.Causes.{number};
-ghost use Rattle.records.specs.Records.{at8, at16, at32, at64, float_of, position_of, same_value, same_place, same_float, new_count, one_more, count_after};
+ghost use Rattle.records.specs.Records.{Decodes, at8, at16, at32, at64, float_of, position_of, same_value, same_place, same_float, new_count, one_more, count_after, IsReplayed};
 
 use answers::Refusal;
 use bits::BitPos;
@@ -59,6 +59,8 @@ pub struct NoFunction;
 // By its number in a record.
 impl TryFrom<u8> for Function {
     type Error = NoFunction;
+
+    ghost try_from_gives = { Decodes };
 
     fn try_from(number: u8) -> Result<Function, NoFunction> {
         Ok(match number {
@@ -118,8 +120,8 @@ pub struct Count {
     pub wrong: u64,
 }
 
-// The byte at a place, and the numbers of 16, 32 and 64 bits there, the least significant byte first. Each is one call of
-// std, which has no trait over the three types.
+// The byte at a place, and the numbers of 16, 32 and 64 bits there, the least significant byte first. Each is one call
+// of std, which has no trait over the three types.
 pub fn byte(r: &[u8], at: usize) -> u8
     ensures { result ≡ at8 r.now at }
 {
@@ -147,12 +149,21 @@ pub fn number32(r: &[u8], at: usize) -> u32
     ])
 }
 
-#[tactic(auto, unfolding(crate::specs::Records::at64))]
+#[tactic(auto, unfolding(crate::specs::Records::at16, crate::specs::Records::at32, crate::specs::Records::at64))]
 pub fn number64(r: &[u8], at: usize) -> u64
     requires { at < 0x4000 }
     ensures { result ≡ at64 r.now at }
 {
-    u64::from(number32(r, at)) + 0x1_0000_0000 * u64::from(number32(r, at + 4))
+    u64::from_le_bytes([
+        byte(r, at),
+        byte(r, at + 1),
+        byte(r, at + 2),
+        byte(r, at + 3),
+        byte(r, at + 4),
+        byte(r, at + 5),
+        byte(r, at + 6),
+        byte(r, at + 7),
+    ])
 }
 
 // The bytes from a place on, n of them as far as they are there.
@@ -180,15 +191,15 @@ pub fn position(r: &[u8]) -> BitPos
     }
 }
 
-// Whether the answer has the record's refusal and value.
+// Whether the answer has the record's refusal and value; the record's number is 0 where nothing is refused.
 pub fn same_value(r: &[u8], refusal: u8, value: u64) -> bool
     ensures { result ≡ same_value r.now refusal value }
 {
     byte(r, REFUSAL) == refusal && number64(r, VALUE) == value
 }
 
-// Whether an answer is the record's: a refusal by its number, beside which the record has no value, and else what `right`
-// says of what the answer holds.
+// Whether an answer is the record's: a refusal by its number, beside which the record has no value, and else what
+// `right` says of what the answer holds.
 pub fn same_answer<T, F: FnOnce(T) -> bool>(r: &[u8], answer: Result<T, Refusal>, right: F) -> bool
     requires { ForOk answer (F.pre right) }
     ensures { MatchResult answer (λ x. F.post right x result) (λ k. result ≡ same_value r.now (number k) 0) }
@@ -247,6 +258,16 @@ pub fn number(r: &[u8], at: usize) -> f32
     float_of(number32(r, at))
 }
 
+// Whether these have the bits that the record has from a place on, one after the other.
+pub fn same_floats(r: &[u8], at: usize, y: &[f32]) -> bool
+    requires { at + 4 * length y.now ≤ 0x8000 }
+    ensures { (result ≡ true) ↔ ((i : ℕ) → i < length y.now → IfSome (slice_get y.now i) (λ x. same_float r.now (at + 4 * i) x ≡ true)) }
+{
+    y.iter()
+        .enumerate()
+        .all(|(i, x)| same_float(r, at + 4 * i, *x))
+}
+
 // The count with one more answer.
 fn one_more(c: Count, ok: bool) -> Count
     ensures { result ≡ one_more c ok }
@@ -259,7 +280,7 @@ fn one_more(c: Count, ok: bool) -> Count
 }
 
 // Prints a count behind the name of its function. No contract can say what is written.
-fn print(rt: &impl Print, c: Count) {
+pub fn print(rt: &impl Print, c: Count) {
     let _ = match Function::try_from(c.function) {
         Ok(function) => println!(rt; "{function}: {} answers, {} wrong", c.answers, c.wrong),
         Err(NoFunction) => println!(rt; "no function: {} answers, {} wrong", c.answers, c.wrong),
@@ -267,7 +288,7 @@ fn print(rt: &impl Print, c: Count) {
 }
 
 // A function's count before its first answer.
-fn new_count(function: u8) -> Count
+pub fn new_count(function: u8) -> Count
     ensures { result ≡ new_count function }
 {
     Count {
@@ -279,7 +300,7 @@ fn new_count(function: u8) -> Count
 
 // The count after the answer to a record. The records stand by function: where the next one begins, the count of the
 // last one is printed.
-fn counted(rt: &impl Print, c: Count, r: &[u8], ok: bool) -> Count
+pub fn counted(rt: &impl Print, c: Count, r: &[u8], ok: bool) -> Count
     ensures { result ≡ count_after c (at8 r.now 0) ok }
 {
     let function = byte(r, 0);
@@ -293,25 +314,40 @@ fn counted(rt: &impl Print, c: Count, r: &[u8], ok: bool) -> Count
 }
 
 // Reads the next record; false where the input has no whole one any more.
-fn next<R: Read>(reader: &mut R, r: &mut [u8]) -> bool
+pub fn next<R: Read>(reader: &mut R, r: &mut [u8]) -> bool
     ensures { OnTrue result (Consumes (R.remaining reader.old) (R.remaining reader.new) r.new) }
 {
     reader.read_exact(r).is_ok()
 }
 
-// Replays the records on standard input, each as long as the one that is lent, and prints the counts of each
-// function's answers: `right` says whether the call of a record gives the record's answer. A proved loop has to end, so
-// it counts its turns, up to a number that no input uses up.
+// Replays the records that the reader gives, each as long as the one that is lent, and returns the count that is still
+// to be printed: `right` says whether the call of a record gives the record's answer. That no whole record is left then
+// is not said, as read_exact says nothing of a reader at which it fails. A proved loop has to end, so it counts its
+// turns, up to a number that no input uses up.
+pub fn replay_from<R: Read, F: Fn(&[u8]) -> bool>(
+    rt: &impl Print,
+    reader: &mut R,
+    r: &mut [u8],
+    right: F,
+) -> Count
+    requires { F.IsAlwaysCallable right }
+    ensures { (rest : _) × IsReplayed (λ bytes ok. (x : _) × (x.now ≡ bytes) × F.post right x ok) (length r.old)
+        (R.remaining reader.old) rest result }
+{
+    let mut c = new_count(0);
+    for _ in 0..u64::MAX {
+        if !next(reader, &mut *r) {
+            break;
+        }
+        c = counted(rt, c, &*r, right(&*r));
+    }
+    c
+}
+
+// Replays the records on standard input, and prints the counts of each function's answers. No contract can say which
+// bytes the system's input gives, nor what is printed; replay_from says what is counted where a reader knows its bytes.
 pub fn replay<F: Fn(&[u8]) -> bool>(rt: &HostRuntime, record: &mut [u8], right: F)
     requires { F.IsAlwaysCallable right }
 {
-    let mut reader = rt.stdin();
-    let mut c = new_count(0);
-    for _ in 0..u64::MAX {
-        if !next(&mut reader, &mut *record) {
-            break;
-        }
-        c = counted(rt, c, &*record, right(&*record));
-    }
-    print(rt, c);
+    print(rt, replay_from(rt, &mut rt.stdin(), record, right));
 }

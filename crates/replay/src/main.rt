@@ -10,6 +10,7 @@ use bits::BitPos;
 use levels::Code;
 use quantiser::{CodeLevel, QuantisedBin};
 use records::Function;
+use std::array;
 use std::convert::TryFrom;
 
 type Record = [u8; 256];
@@ -50,13 +51,8 @@ fn same_out(r: &Record, out: &Record, n: usize) -> bool {
 }
 
 // Whether the six have the bits of the output after the call.
-fn same_floats(r: &Record, y: &[f32; 6]) -> bool {
-    for i in 0..6 {
-        if !records::same_float(r, OUT_AFTER + 4 * i, y[i]) {
-            return false;
-        }
-    }
-    true
+fn same_six(r: &Record, y: &[f32; 6]) -> bool {
+    records::same_floats(r, OUT_AFTER, y)
 }
 
 fn read(r: &Record) -> Result<(u32, BitPos), Refusal> {
@@ -115,22 +111,16 @@ fn hebap(r: &Record) -> Result<u8, Refusal> {
 
 // The output before the call, as signed numbers.
 fn marks_of(r: &Record) -> [i8; 24] {
-    let mut marks = [0i8; 24];
-    for i in 0..24 {
-        marks[i] = r[OUT + i].cast_signed();
-    }
-    marks
+    array::from_fn(|i| r[OUT + i].cast_signed())
 }
 
 fn same_marks(r: &Record, n: usize, marks: &[i8; 24]) -> bool
     requires { n ≤ 24 }
 {
-    for i in 0..n {
-        if marks[i] != r[OUT_AFTER + i].cast_signed() {
-            return false;
-        }
-    }
-    true
+    marks[..n]
+        .iter()
+        .zip(&r[OUT_AFTER..])
+        .all(|(mark, b)| *mark == b.cast_signed())
 }
 
 fn replay_fill(r: &Record, before: [i8; 24]) -> bool {
@@ -167,19 +157,16 @@ fn replay_scalars(r: &Record) -> bool {
         r[D],
         &mut values,
     );
-    same_floats(r, &values) && records::same_move(r, answer)
+    same_six(r, &values) && records::same_move(r, answer)
 }
 
+// The components of a bin. replay_channels has those of eight: each is one call, and would be one of a shared function.
 fn six(r: &Record) -> [f32; 6] {
-    let mut x = [0.0f32; 6];
-    for i in 0..6 {
-        x[i] = records::number(r, VECTORS + 4 * i);
-    }
-    x
+    array::from_fn(|i| records::number(r, VECTORS + 4 * i))
 }
 
 fn replay_lookup(r: &Record, answer: [f32; 6]) -> bool {
-    same_floats(r, &answer) && records::same_value(r, 0, 0)
+    same_six(r, &answer) && records::same_value(r, 0, 0)
 }
 
 fn search(r: &Record, x: [f32; 6]) -> Result<usize, Refusal> {
@@ -211,12 +198,12 @@ fn replay_bin(r: &Record, answer: Result<QuantisedBin, Refusal>) -> bool {
             let values = bin.values;
             records::same_value(r, 0, u64::from(bin.bits))
                 && records::same_float(r, ARG32, bin.err)
-                && same_floats(r, &values)
+                && same_six(r, &values)
         }
         Err(k) => {
             records::same_value(r, k.number(), 0)
                 && records::same_float(r, ARG32, 0.0)
-                && same_floats(r, &[0.0; 6])
+                && same_six(r, &[0.0; 6])
         }
     }
 }
@@ -260,7 +247,8 @@ fn right(r: &Record) -> bool {
     }
 }
 
-// The same of a record that is lent as a slice.
+// The same of a record that is lent as a slice. It stands in both programs, since `right` takes an array of the
+// program's own length, and no proof covers a bound `Fn` that names a const parameter.
 fn right_at(r: &[u8]) -> bool {
     let Ok(record) = <&Record>::try_from(r) else {
         return false;

@@ -9,6 +9,7 @@ use bits::BitPos;
 use planner::Plan;
 use reader::ChannelRead;
 use records::Function;
+use std::array;
 use std::convert::TryFrom;
 
 type Record = [u8; 1024];
@@ -69,13 +70,9 @@ fn row(r: &Record) -> &[u8] {
     records::part(r, ROW, usize::from(r[ROW_LEN]).min(16))
 }
 
-// The components of eight bins.
+// The components of eight bins. replay has those of one: each is one call, and would be one of a shared function.
 fn vectors(r: &Record) -> [f32; 48] {
-    let mut x = [0.0f32; 48];
-    for j in 0..48 {
-        x[j] = records::number(r, VECTORS + 4 * j);
-    }
-    x
+    array::from_fn(|i| records::number(r, VECTORS + 4 * i))
 }
 
 // The gains that a record holds are 32; all others are 0.
@@ -114,11 +111,7 @@ fn same_none(r: &Record) -> bool {
 
 // The gains of a plan; the record's 32 stand again behind them, so that places that no gain uses hold something.
 fn gains_of(r: &Record) -> [u8; 256] {
-    let mut gains = channel::no_gains();
-    for i in 0..256 {
-        gains[i] = r[GAINS + i % 32];
-    }
-    gains
+    array::from_fn(|i| r[GAINS + i % 32])
 }
 
 fn plan_of(r: &Record, gains: [u8; 256]) -> Plan {
@@ -159,19 +152,13 @@ fn replay_write(r: &Record, plan: Plan, x: [f32; 48]) -> bool {
 
 // Six values, six exact values and an index for each of eight bins.
 fn same_outputs(r: &Record, values: &[f32; 48], exact: &[i32; 48], indices: &[u16; 8]) -> bool {
-    for i in 0..48 {
-        let bin = i / 6;
-        if !records::same_float(r, VALUES + 4 * i, values[i]) {
-            return false;
-        }
-        if exact[i] != records::number32(r, EXACT + 4 * i).cast_signed() {
-            return false;
-        }
-        if indices[bin] != records::number16(r, INDICES + 2 * bin) {
-            return false;
-        }
-    }
-    true
+    records::same_floats(r, VALUES, values)
+        && exact.iter().enumerate().all(|(i, x)| *x
+            == records::number32(r, EXACT + 4 * i).cast_signed())
+        && indices
+            .iter()
+            .enumerate()
+            .all(|(i, x)| *x == records::number16(r, INDICES + 2 * i))
 }
 
 fn same_shown(r: &Record, answer: Result<ChannelRead, Refusal>) -> bool {
@@ -260,7 +247,8 @@ fn right(r: &Record) -> bool {
     }
 }
 
-// The same of a record that is lent as a slice.
+// The same of a record that is lent as a slice. It stands in both programs, since `right` takes an array of the
+// program's own length, and no proof covers a bound `Fn` that names a const parameter.
 fn right_at(r: &[u8]) -> bool {
     let Ok(record) = <&Record>::try_from(r) else {
         return false;
