@@ -206,7 +206,8 @@ impl Steps {
 
     // The values of x, their bits and the sum of their squared errors, in order.
     fn fill(&self, x: &[f32; 6], values: &mut [f32; 6]) -> Sums
-        ensures { (values.new ≡ bin_values self.now.hebap self.now.gk x.now) × (result.bits ≡ codes_bits self.now.hebap self.now.gk x.now) × (result.err ≡ error_from self.now.hebap self.now.gk f0 x.now) }
+        ensures { (values.new ≡ bin_values self.now.hebap self.now.gk x.now) × (result.bits ≡ codes_bits self.now.hebap self.now.gk x.now)
+            × (result.err ≡ error_from self.now.hebap self.now.gk f0 x.now) }
     {
         let mut bits: u32 = 0;
         let mut err: f32 = 0.0;
