@@ -136,6 +136,13 @@ module _ (p : Plan) (row : List ℕ) (start end : ℕ) (x : List Float) (given :
           ∙ zeros_front 8192 n bs (omega arith) (omega arith) ∙ ap (λ (m : ℕ). bytes_with (replicate ((m + 7) / 8) 0) 0 bs) (sym l) in
           rw b
 
+      -- the plan is printed with so many of the bytes
+      pub field_given : (n r : ℕ) (out new : List ℕ) → n ≡ (total_of p + 7) / 8 → r ≡ length (plan_text p (take n after)) → new ≡ splice out 0 (plan_text p (take n after))
+          → Prints (view_of WithField p row start end x) out new (Ok r)
+      field_given n r out new e f g =
+          let t : plan_text p (take n after) ≡ view_of WithField p row start end x = ap (λ (m : ℕ). plan_text p (take m after)) e ∙ plan_given in
+          (f ∙ ap length t, g ∙ ap (splice out 0) t)
+
   -- ---- its pages: the output holds them
   no_cause : plan_cause p row start end x ≡ None
   no_cause = rw is (plan_cause_fit (plan_answered row start end x) row start end x true (cause-none row start end x planned_given) (sym (fits row start end x planned_given)))

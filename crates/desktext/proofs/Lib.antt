@@ -1,10 +1,11 @@
 pub mod Laws
 pub mod Signed
+pub mod Spelt
+pub mod Eaten
 pub mod Steps
 pub mod ChannelTokens
 pub mod Forms
 pub mod Outputs
-pub mod Spelt
 pub mod Back
 pub mod Texts
 pub mod Longest

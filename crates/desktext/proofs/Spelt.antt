@@ -113,7 +113,7 @@ leads_spelt (x ∷ w) (y ∷ s) e = go (eqb x y) refl (leads_spelt w s) e
     go true f more g = let h : x ≡ y = eqb-true _ _ f in let i = more g in cc
     go false f more g = no_true g
 
-named_spelt : (s : List ℕ) (t : ℕ) (r : List ℕ) → named s ≡ seen t r → (w : List ℕ) × (s ≡ w ++ r) × Word t w
+pub named_spelt : (s : List ℕ) (t : ℕ) (r : List ℕ) → named s ≡ seen t r → (w : List ℕ) × (s ≡ w ++ r) × Word t w × (last_number < t)
 unfolding named
 named_spelt s t r e = go (leads channel_word s) (leads bins_word s) (leads row_word s) (leads vector_word s) refl refl refl refl e
   where
@@ -125,11 +125,11 @@ named_spelt s t r e = go (leads channel_word s) (leads bins_word s) (leads row_w
 
     go : (a b c d : Bool) → leads channel_word s ≡ a → leads bins_word s ≡ b → leads row_word s ≡ c → leads vector_word s ≡ d
         → cond a (seen channel_token (drop 8 s)) (cond b (seen bins_token (drop 5 s)) (cond c (seen row_token (drop 4 s)) (cond d (seen vector_token (drop 7 s)) unseen))) ≡ seen t r
-        → (w : List ℕ) × (s ≡ w ++ r) × Word t w
-    go true b c d f g h i k = let n = found channel_word channel_token [] f k in (channel_word, n.1, channel_name n.0 refl)
-    go false true c d f g h i k = let n = found bins_word bins_token [] g k in (bins_word, n.1, bins_name n.0 refl)
-    go false false true d f g h i k = let n = found row_word row_token [] h k in (row_word, n.1, row_name n.0 refl)
-    go false false false true f g h i k = let n = found vector_word vector_token [] i k in (vector_word, n.1, vector_name n.0 refl)
+        → (w : List ℕ) × (s ≡ w ++ r) × Word t w × (last_number < t)
+    go true b c d f g h i k = let n = found channel_word channel_token [] f k in let m = n.0 in (channel_word, n.1, channel_name n.0 refl, omega arith)
+    go false true c d f g h i k = let n = found bins_word bins_token [] g k in let m = n.0 in (bins_word, n.1, bins_name n.0 refl, omega arith)
+    go false false true d f g h i k = let n = found row_word row_token [] h k in let m = n.0 in (row_word, n.1, row_name n.0 refl, omega arith)
+    go false false false true f g h i k = let n = found vector_word vector_token [] i k in let m = n.0 in (vector_word, n.1, vector_name n.0 refl, omega arith)
     go false false false false f g h i k = no_seen t r k
 
 word_spelt : (s : List ℕ) (t : ℕ) (r : List ℕ) → or_else (named s) (number_seen s) ≡ seen t r → (w : List ℕ) × (s ≡ w ++ r) × Word t w
@@ -137,9 +137,9 @@ word_spelt s t r e = go (named s) refl e
   where
     go : (x : Seen) → named s ≡ x → or_else x (number_seen s) ≡ seen t r → (w : List ℕ) × (s ≡ w ++ r) × Word t w
     go unseen f g = number_spelt s t r g
-    go (seen u q) f g = named_spelt s t r (f ∙ g)
+    go (seen u q) f g = let n = named_spelt s t r (f ∙ g) in (n.0, n.1, n.2)
 
-item_spelt : (s : List ℕ) (t : ℕ) (r : List ℕ) → item_head s ≡ seen t r → (w : List ℕ) × ((s ≡ 32 ∷ (w ++ r)) ⊎ (s ≡ 10 ∷ (w ++ r))) × Word t w
+pub item_spelt : (s : List ℕ) (t : ℕ) (r : List ℕ) → item_head s ≡ seen t r → (w : List ℕ) × ((s ≡ 32 ∷ (w ++ r)) ⊎ (s ≡ 10 ∷ (w ++ r))) × Word t w
 unfolding item_head
 item_spelt [] t r e = no_seen t r e
 item_spelt (b ∷ s) t r e = go (eqb b 32) (eqb b 10) refl refl e

@@ -1,5 +1,5 @@
 -- Laws of the text's tokens, by the cases that the readers meet. Assumes nothing.
-use Prim.Native.Nat.{ℕ, suc, ◌+◌, ◌-◌, ◌≤◌, ◌<◌}
+use Prim.Native.Nat.{ℕ, suc, ◌+◌, ◌-◌, ◌*◌, ◌≤◌, ◌<◌}
 use mathlib.Core.Path.{◌≡◌, refl, sym, ap, ◌∙◌}
 use mathlib.Core.List.{List, [], ◌∷◌, ◌++◌, append_assoc, append-nil, map-append}
 use native.Mathlib.Numerals.{add-one}
@@ -49,7 +49,7 @@ module _ (n d : ℕ) (s : List ℕ) where
   rest_none e f = rw (e, f)
 
 -- what the reader knows, one token on
-module _ (s r : List ℕ) (levels n : ℕ) (out : List Token) (few : levels ≤ 3) (room : n + length r ≤ length out) (here : Reading s r n (4 - levels) out) where
+module _ (s r : List ℕ) (levels n : ℕ) (out : List Token) (few : levels ≤ 3) (room : 2 * n + length r + 1 ≤ 2 * length out) (here : Reading s r n (4 - levels) out) where
   this : rest (suc (length s) - n) (4 - levels) r ≡ rest (suc (suc (length s) - (n + 1))) (suc (3 - levels)) r
   this =
       let p = here.fewer in
@@ -95,7 +95,7 @@ name_is : (s : List ℕ) (t : ℕ) (r : List ℕ) → seen t r ≡ named s → t
 unfolding tokens
 name_is s t r e = rw (← e)
 
-pub begin_form : (s : List ℕ) (t : Token) (q : List ℕ) (out : List Token) → seen (number_of t) q ≡ named s → length q < length s → length s ≤ length out → Reading s q 1 1 (set out 0 t)
+pub begin_form : (s : List ℕ) (t : Token) (q : List ℕ) (out : List Token) → seen (number_of t) q ≡ named s → length q < length s → length s ≤ 2 * length out → Reading s q 1 1 (set out 0 t)
 begin_form s t q out e a room =
     let z : suc (length s) - 1 ≡ length s = omega arith in
     let w : tokens s ≡ after (number_of t ∷ []) (rest (length s) 1 q) = name_is s (number_of t) q e in
@@ -122,6 +122,6 @@ module _ (s r : List ℕ) (n : ℕ) (out : List Token) (now : Reading s r n 0 ou
   none_read e = last_is ∙ ap (after (numbers_of (take n out))) e
 
 -- what a form reads behind its name is what the item reads
-pub form_goes : (s q : List ℕ) (n : ℕ) (r : Option (Bor (List ℕ) × ℕ)) → length q < length s → Goes q (n + 1) r → Goes s n r
+pub form_goes : (s q : List ℕ) (n : ℕ) (r : Option (Bor (List ℕ) × ℕ)) → length q + 3 ≤ length s → Goes q (n + 1) 1 r → Goes s n 0 r
 form_goes s q n (Some p) h g = let a = g.0 in let b = g.1 in (omega arith, omega arith)
 form_goes s q n None h g = tt

@@ -80,10 +80,11 @@ abbrev pub StepReads : List ℕ → ℕ → List Token → Option (Bor (List ℕ
 StepReads s depth out (Some p) = Reading s p.0.now p.1 depth out
 StepReads s depth out None = tokens s ≡ malformed
 
--- of s something is read, and by each byte one token at most
-abbrev pub Goes : List ℕ → ℕ → Option (Bor (List ℕ) × ℕ) → Type 0
-Goes s n (Some p) = (length p.0.now < length s) × (p.1 + length p.0.now ≤ n + length s)
-Goes s n None = Unit {0}
+-- of s something is read, and by each two bytes one token at most: k is 1 where a bracket is closed that was opened
+-- before s, and else 0
+abbrev pub Goes : List ℕ → ℕ → ℕ → Option (Bor (List ℕ) × ℕ) → Type 0
+Goes s n k (Some p) = (length p.0.now < length s) × (2 * p.1 + length p.0.now ≤ 2 * n + length s + k)
+Goes s n k None = Unit {0}
 
 -- the first n elements of a buffer are the text's tokens
 abbrev pub ListedIn : List ℕ → List Token → Option ℕ → Type 0

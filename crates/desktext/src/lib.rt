@@ -54,12 +54,16 @@ const LARGEST: u32 = 16777216;
 // No channel's text is longer: it has 2,312 tokens of ten bytes at most, and a last line end.
 const LONGEST: usize = 23121;
 
+// Room for the tokens of the longest text, one for each two bytes: a number takes two or more with the separator before
+// it, and a form's name four or more with its closing bracket.
+const TOKENS: usize = 11561;
+
 // A channel's text, with room to work in.
 fn read_with(
     text: &[u8],
     row: &mut [u8; 256],
     vectors: &mut [f32; 1536],
-    work: &mut [Token; LONGEST],
+    work: &mut [Token; TOKENS],
 ) -> Result<Shape, Refusal>
     ensures value { result ≡ text_answer (channel_in text.now) }
     ensures row_after { row.new ≡ row_after (channel_in text.now) row.old }
@@ -83,7 +87,7 @@ pub fn read_text(
     ensures row_after { row.new ≡ row_after (channel_in text.now) row.old }
     ensures vectors_after { vectors.new ≡ vectors_after (channel_in text.now) vectors.old }
 {
-    let mut work = [Token::Close; LONGEST];
+    let mut work = [Token::Number(0); TOKENS];
     read_with(text, row, vectors, &mut work)
 }
 

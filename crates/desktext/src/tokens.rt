@@ -1,5 +1,5 @@
 // The bytes of a desk text read as tokens.
-ghost use Rattle.std.specs.Prelude.{◌+◌, ◌-◌, ◌≤◌, ◌<◌, ◌≡◌, List, ℕ, [], cond, length};
+ghost use Rattle.std.specs.Prelude.{◌+◌, ◌-◌, ◌*◌, ◌≤◌, ◌<◌, ◌≡◌, List, ℕ, [], cond, length};
 ghost use Rattle.desktext.specs.Text.{named, item_head, bracket, closing, unseen, ending, got, malformed};
 ghost use Rattle.desktext.specs.Work.{ListedIn, Finds, word_seen, Goes, Reading, StepReads};
 
@@ -73,8 +73,8 @@ fn closing(text: &[u8]) -> Option<(Token, &[u8])>
 // them, and how many tokens there are now, since the list is an array (no heap). The loop ends on what it reads.
 #[cycle(form_item)]
 fn form<'a>(text: &'a [u8], levels: usize, out: &mut [Token], n: usize) -> Option<(&'a [u8], usize)>
-    requires { (levels ≤ 3) × (n + length text.now ≤ length out.old) }
-    ensures goes { Goes text.now n result }
+    requires { (levels ≤ 3) × (2 * n + length text.now + 1 ≤ 2 * length out.old) }
+    ensures goes { Goes text.now n 1 result }
     ensures reads { (s : List ℕ) → Reading s text.now n (4 - levels) out.old → StepReads s (3 - levels) out.new result }
 {
     let mut rest = text;
@@ -93,8 +93,8 @@ fn form<'a>(text: &'a [u8], levels: usize, out: &mut [Token], n: usize) -> Optio
 // One item of a form: a number, or a form of one level less.
 #[cycle(form_item)]
 fn item<'a>(text: &'a [u8], levels: usize, out: &mut [Token], n: usize) -> Option<(&'a [u8], usize)>
-    requires { (levels ≤ 3) × (n + length text.now ≤ length out.old) × (closing text.now ≡ unseen) }
-    ensures goes { Goes text.now n result }
+    requires { (levels ≤ 3) × (2 * n + length text.now + 1 ≤ 2 * length out.old) × (closing text.now ≡ unseen) }
+    ensures goes { Goes text.now n 0 result }
     ensures reads { (s : List ℕ) → Reading s text.now n (4 - levels) out.old → StepReads s (4 - levels) out.new result }
 {
     let (t, rest) = head(text)?;
@@ -122,7 +122,7 @@ fn is_end(text: &[u8]) -> bool
 
 // The tokens of a text, and how many they are.
 pub fn tokens_in(text: &[u8], out: &mut [Token]) -> Option<usize>
-    requires { length text.now ≤ length out.old }
+    requires { length text.now ≤ 2 * length out.old }
     ensures { ListedIn text.now out.new result }
 {
     let (t, rest) = named(text)?;

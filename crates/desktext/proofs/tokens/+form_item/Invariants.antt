@@ -1,5 +1,5 @@
 -- A form calls item with its levels, and an item calls form with one level less.
-use Prim.Native.Nat.{ℕ, ◌+◌, ◌-◌, ◌≤◌}
+use Prim.Native.Nat.{ℕ, ◌+◌, ◌-◌, ◌*◌, ◌≤◌}
 use mathlib.Core.Path.{◌≡◌}
 use mathlib.Core.List.{List}
 use lib.ListN.{length}
@@ -13,7 +13,7 @@ abbrev pub decreases-item : goal.decreases-item
 decreases-item l = l.levels + l.levels
 
 abbrev pub invariant-form-loop-t : goal.invariant-form-loop-t
-invariant-form-loop-t l = ((s : List ℕ) → Reading s l.fn.text l.fn.n (4 - l.levels) l.fn.out → Reading s l.rest l.m (4 - l.levels) l.out) × (length l.rest ≤ length l.fn.text) × (l.m + length l.rest ≤ l.fn.n + length l.fn.text) × (length l.out ≡ length l.fn.out)
+invariant-form-loop-t l = ((s : List ℕ) → Reading s l.fn.text l.fn.n (4 - l.levels) l.fn.out → Reading s l.rest l.m (4 - l.levels) l.out) × (length l.rest ≤ length l.fn.text) × (2 * l.m + length l.rest ≤ 2 * l.fn.n + length l.fn.text) × (length l.out ≡ length l.fn.out)
 
 abbrev pub decreases-form-loop-t : goal.decreases-form-loop-t
 decreases-form-loop-t l = length l.rest
