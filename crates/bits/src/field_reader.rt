@@ -1,5 +1,5 @@
 // A field's bytes, read from a position on.
-ghost use Rattle.std.specs.Prelude.{◌≡◌, ◌+◌, ◌*◌, ◌<◌, ◌≤◌, ◌^◌, leb, length, Ok};
+ghost use Rattle.std.specs.Prelude.{◌≡◌, ◌+◌, ◌*◌, ◌<◌, ◌≤◌, ◌^◌, leb, length, Ok, OnErr};
 ghost use Rattle.bits.specs.Bits.{number_of, bit_at, pos_of, Inside};
 ghost use Rattle.bits.specs.Format.{number};
 
@@ -29,10 +29,11 @@ impl<'a> FieldReader<'a> {
         }
     }
 
-    // The next n bits as an unsigned number. Refuses with 8.
+    // The next n bits as an unsigned number. Refuses with 8, and stays where it is then.
     pub fn read_u32(&mut self, n: u32) -> Result<u32, Refusal>
         requires { n ≤ 32 }
-        ensures { Takes (λ v. v) ((number n).dec (ahead self.old)) result (λ v. v < 2 ^ n) self.old self.new }
+        ensures reads { Takes (λ v. v) ((number n).dec (ahead self.old)) result (λ v. v < 2 ^ n) self.old self.new }
+        ensures kept { OnErr result (self.new ≡ self.old) }
     {
         let (v, next) = self.pos.read_u32(self.src, n)?;
         self.pos = next;

@@ -5,6 +5,7 @@ ghost use Rattle.std.specs.Prelude.{◌≡◌, ◌||◌, ◌+◌, ◌*◌, ◌�
 ghost use Rattle.std.specs.Float.Ieee.{lt};
 ghost use Rattle.std.specs.Float.{nan};
 ghost use Rattle.levels.specs.Value.{q15};
+ghost use Rattle.bits.specs.Bits.{splice};
 ghost use Rattle.tables.specs.Tables.{vq_bits};
 ghost use Rattle.books.specs.Books.{vectors_of, six_at, vq_lookup, exact_entry, exacts_at, vq_exact};
 ghost use Rattle.books.specs.Books.{term_of, search_of, vq_search};
@@ -98,16 +99,17 @@ pub fn vq_lookup(hebap: u8, index: usize) -> [f32; 6]
     six(tables::vq_book(hebap), index % n * 6)
 }
 
-// The vector at an index of the book of the hebap, as f32 and as exact values.
-pub fn put_vector(hebap: u8, index: usize, values: &mut [f32; 6], exact: &mut [i32; 6])
-    requires { (1 ≤ hebap) × (hebap ≤ 7) × (index < 2 ^ vq_bits hebap) }
-    ensures values_after { values.new ≡ vq_lookup hebap index }
-    ensures exact_after { exact.new ≡ vq_exact hebap index }
+// The vector at an index of the book of the hebap goes to six places from `at` on, as f32 and as exact values.
+pub fn put_vector(hebap: u8, index: usize, at: usize, values: &mut [f32], exact: &mut [i32])
+    requires le_hebap { (1 ≤ hebap) × (hebap ≤ 7) × (index < 2 ^ vq_bits hebap) }
+    requires at_in_bounds { (at + 6 ≤ length values.old) × (at + 6 ≤ length exact.old) }
+    ensures values_after { values.new ≡ splice values.old at (vq_lookup hebap index) }
+    ensures exact_after { exact.new ≡ splice exact.old at (vq_exact hebap index) }
 {
     let book = tables::vq_book(hebap);
     let a = index * 6;
-    *values = six(book, a);
-    *exact = exact_six(book, a);
+    values[at..at + 6].copy_from_slice(&six(book, a));
+    exact[at..at + 6].copy_from_slice(&exact_six(book, a));
 }
 
 // ---- searching

@@ -51,11 +51,11 @@ either_long : {A : Type 0} (t : Bool) (l l' : List A) → length l ≡ 6 → len
 either_long true l l' e e' = e
 either_long false l l' e e' = e'
 
-lookup_long : (h i : ℕ) → length (vq_lookup h i) ≡ 6
+pub lookup_long : (h i : ℕ) → length (vq_lookup h i) ≡ 6
 unfolding vq_lookup six_at
 lookup_long h i = either_long (has_book h) (six_at (book h) (i % 2 ^ vq_bits h * 6)) (replicate 6 f0) refl refl
 
-vector_long : (h i : ℕ) → length (vq_exact h i) ≡ 6
+pub vector_long : (h i : ℕ) → length (vq_exact h i) ≡ 6
 unfolding vq_exact exacts_at
 vector_long h i = either_long (has_book h) (exacts_at (book h) (i % 2 ^ vq_bits h * 6)) (replicate 6 (pos 0)) refl refl
 

@@ -1,6 +1,9 @@
 // One bin of a field.
 ghost use Rattle.std.specs.Prelude.{◌<◌, ◌≤◌};
 ghost use Rattle.bits.specs.Takes.{ahead, Takes};
+ghost use Rattle.tables.specs.Tables.{mant_bits};
+ghost use Rattle.levels.specs.Codes.{six};
+ghost use Rattle.scalars.specs.Work.{SixLeft};
 ghost use Rattle.channel.specs.Field.{book, scalar, lenient, item, bin_of};
 ghost use Rattle.reader.specs.Work.{BinPut};
 
@@ -32,6 +35,18 @@ pub fn read_index(
     Ok(())
 }
 
+// The six codes of a scale: their values, as f32 and exact, are the row.
+fn read_row(
+    reader: &mut FieldReader,
+    s: CodeScale,
+    values: &mut [f32; 6],
+    exact: &mut [i32; 6],
+) -> Result<(), Refusal>
+    ensures { Takes (λ cs. tt) ((six (mant_bits s.hebap) s.gk).dec (ahead reader.old)) result (SixLeft s.hebap s.gk values.new exact.new) reader.old reader.new }
+{
+    scalars::read_six(reader, s, 0, values, exact)
+}
+
 // The six codes of a scalar bin: their values, as f32 and exact, and 0 for the index go to the bin's places.
 pub fn read_codes(
     reader: &mut FieldReader,
@@ -44,7 +59,7 @@ pub fn read_codes(
         (BinPut bin (scalar s.hebap s.gk) scratch.old scratch.new) reader.old reader.new }
 {
     scratch.indices[bin] = 0;
-    scalars::read_six(reader, s, &mut scratch.values[bin], &mut scratch.exact[bin])
+    read_row(reader, s, &mut scratch.values[bin], &mut scratch.exact[bin])
 }
 
 // A bin: six values, six exact values and an index go to its places.

@@ -2,6 +2,7 @@
 ghost use Rattle.std.specs.Prelude.{◌≡◌, ◌-◌, ◌*◌, ◌^◌, ◌<◌, ◌≤◌, length, take, drop};
 ghost use Rattle.bits.specs.Bits.{splice};
 ghost use Rattle.tables.specs.Tables.{vq_bits};
+ghost use Rattle.books.specs.Books.{vq_lookup, vq_exact};
 ghost use Rattle.channel.specs.Field.{none, book, nothing, index};
 ghost use Rattle.channel.specs.Shown.{joined};
 ghost use Rattle.reader.specs.Work.{BinPut};
@@ -16,6 +17,15 @@ pub struct Scratch {
     pub indices: [u16; 256],
 }
 
+// The vector at an index of the book is the row.
+fn put_vector_row(hebap: u8, index: usize, values: &mut [f32; 6], exact: &mut [i32; 6])
+    requires { (1 ≤ hebap) × (hebap ≤ 7) × (index < 2 ^ vq_bits hebap) }
+    ensures values_after { values.new ≡ vq_lookup hebap index }
+    ensures exact_after { exact.new ≡ vq_exact hebap index }
+{
+    books::put_vector(hebap, index, 0, values, exact)
+}
+
 impl Scratch {
     // The vector at an index of the book goes to the bin's places, with the index.
     pub fn put_index(&mut self, hebap: u8, i: u32, bin: usize)
@@ -23,7 +33,7 @@ impl Scratch {
         requires bin_bound { bin < 256 }
         ensures { BinPut bin (book hebap) self.old self.new (index i) }
     {
-        books::put_vector(
+        put_vector_row(
             hebap,
             i as usize,
             &mut self.values[bin],

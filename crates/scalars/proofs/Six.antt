@@ -6,7 +6,7 @@ use mathlib.Core.Bool.{Bool}
 use native.Mathlib.Omega.{arith}
 use lib.IntN.{ℤ}
 use lib.Ieee.{Float}
-use lib.ListN.{length, set, replicate, length-append, length-map, drop_of_length-le}
+use lib.ListN.{length, set, replicate, take, drop, length-append, length-map}
 use Rattle.std.specs.Prelude.{Result, Ok, Err, ⊤}
 use Rattle.answers.specs.declared.Refusal.{Refusal}
 use Rattle.bits.specs.Bits.{splice}
@@ -15,7 +15,7 @@ use Rattle.bits.specs.Takes.{ahead, Takes}
 use Rattle.bits.specs.Work.{resume}
 use Rattle.bits.specs.declared.field_reader.FieldReader.{FieldReader}
 use Rattle.bits.proofs.Laws.{splice_none}
-use Rattle.bits.proofs.Copying.{put_more}
+use Rattle.bits.proofs.Copying.{put_more, part_spliced, splice_whole}
 use Rattle.bits.proofs.Taking.{takes_got, takes_refused, got_to, refused_by}
 use Rattle.bits.proofs.Lawful.{each_lawful, resume_none, resume_next, resume_stop, resume_done}
 use Rattle.tables.specs.Tables.{mant_bits}
@@ -66,7 +66,7 @@ module _ (h g : ℕ) (bs : List Bool) (v : List Float) (x : List ℤ) where
 
   -- what a loop leaves
   abbrev pub Left : List Float → List ℤ → Type 0
-  Left v' x' = (v' ≡ six_values h g bs v) × (x' ≡ six_exacts h g bs x)
+  Left v' x' = (v' ≡ six_values h g 0 bs v) × (x' ≡ six_exacts h g 0 bs x)
 
 module _ {h g : ℕ} {bs : List Bool} {v : List Float} {x : List ℤ} {left : List Bool} {j : ℕ} {v' : List Float} {x' : List ℤ} (f : SoFar h g bs v x left j v' x') where
   abbrev one : ℕ → Format Code
@@ -137,11 +137,6 @@ counted F (suc n) (c ∷ cs) o = ap suc (counted F n cs o.1)
 six_there : (m g : ℕ) (bs rest : List Bool) (cs : List Code) → (six m g).dec bs ≡ got cs rest → length cs ≡ 6
 six_there m g bs rest cs e = counted (λ k. coded m g) 6 cs ((each_lawful (λ k. coded m g) (λ k. coded_lawful m g) (replicate 6 0)).sole bs rest cs e).1
 
--- a whole list put in
-splice_whole : {A : Type 0} (l new : List A) → length l ≡ length new → splice l 0 new ≡ new
-unfolding splice
-splice_whole l new e = let h : length l ≤ 0 + length new = omega arith in rw (drop_of_length-le l h, append-nil)
-
 -- the codes of a bin that is there are all the codes that are there
 pub all_there : (F : Format Code) (n : ℕ) (bs rest : List Bool) (cs : List Code) → each_dec (λ (k : ℕ). F) (replicate n 0) bs ≡ got cs rest → codes_there F n bs ≡ cs
 unfolding each_dec codes_there
@@ -166,16 +161,16 @@ module _ (h g : ℕ) (bs rest : List Bool) (cs : List Code) where
       let k = six_there (mant_bits h) g bs rest cs d in
       ap (λ l. splice v 0 (map f l)) (all_there (coded (mant_bits h) g) 6 bs rest cs d) ∙ splice_whole v (map f cs) (l ∙ sym k ∙ sym (length-map cs f))
 
-  values_whole : (v : List Float) → (six (mant_bits h) g).dec bs ≡ got cs rest → length v ≡ 6 → six_values h g bs v ≡ map (value_of h g) cs
+  values_whole : (v : List Float) → (six (mant_bits h) g).dec bs ≡ got cs rest → length v ≡ 6 → six_values h g 0 bs v ≡ map (value_of h g) cs
   unfolding six_values
   values_whole = all_put (value_of h g)
 
-  exacts_whole : (x : List ℤ) → (six (mant_bits h) g).dec bs ≡ got cs rest → length x ≡ 6 → six_exacts h g bs x ≡ map (exact_of h g) cs
+  exacts_whole : (x : List ℤ) → (six (mant_bits h) g).dec bs ≡ got cs rest → length x ≡ 6 → six_exacts h g 0 bs x ≡ map (exact_of h g) cs
   unfolding six_exacts
   exacts_whole = all_put (exact_of h g)
 
 -- the six values of a bin that is there
-pub values_all : (h g : ℕ) (out v v' : List Float) (before now : FieldReader) → v' ≡ six_values h g (ahead before) v → length v ≡ 6
+pub values_all : (h g : ℕ) (out v v' : List Float) (before now : FieldReader) → v' ≡ six_values h g 0 (ahead before) v → length v ≡ 6
     → Takes (λ cs. tt) ((six (mant_bits h) g).dec (ahead before)) (Ok (tt {0})) (λ cs. Unit) before now → v' ≡ scalars_after out (values_read h g (ahead before))
 values_all h g out v v' before now is long t =
     let d = got_to (λ cs. tt) ((six (mant_bits h) g).dec (ahead before)) (λ cs. Unit) before now tt t in
@@ -183,7 +178,7 @@ values_all h g out v v' before now is long t =
     ∙ ap (λ (G : Got (List Code)). scalars_after out (and_then G (λ cs rest. got (map (value_of h g) cs) rest))) (sym d.is)
 
 -- the values of six places after reading, where all six are there
-pub six_left : (h g : ℕ) (v v' : List Float) (x x' : List ℤ) (before now : FieldReader) (r : Result ⊤ Refusal) → length v ≡ 6 → length x ≡ 6 → v' ≡ six_values h g (ahead before) v → x' ≡ six_exacts h g (ahead before) x
+pub six_left : (h g : ℕ) (v v' : List Float) (x x' : List ℤ) (before now : FieldReader) (r : Result ⊤ Refusal) → length v ≡ 6 → length x ≡ 6 → v' ≡ six_values h g 0 (ahead before) v → x' ≡ six_exacts h g 0 (ahead before) x
     → Takes (λ cs. tt {0}) ((six (mant_bits h) g).dec (ahead before)) r (λ cs. Unit {0}) before now → Takes (λ cs. tt {0}) ((six (mant_bits h) g).dec (ahead before)) r (SixLeft h g v' x') before now
 six_left h g v v' x x' before now (Ok u) lv lx ev ex t =
     let d = got_to (λ cs. tt {0}) ((six (mant_bits h) g).dec (ahead before)) (λ cs. Unit {0}) before now tt t in
@@ -191,3 +186,30 @@ six_left h g v v' x x' before now (Ok u) lv lx ev ex t =
     (ev ∙ values_whole h g (ahead before) (ahead now) d.value v d.is lv, ex ∙ exacts_whole h g (ahead before) (ahead now) d.value x d.is lx)
 six_left h g v v' x x' before now (Err k) lv lx ev ex t =
     takes_refused (λ cs. tt {0}) ((six (mant_bits h) g).dec (ahead before)) (SixLeft h g v' x') before now k (refused_by (λ cs. tt {0}) ((six (mant_bits h) g).dec (ahead before)) (λ cs. Unit {0}) before now k t)
+
+-- ---- six places of longer outputs
+there_few : (F : Format Code) (n : ℕ) (bs : List Bool) → length (codes_there F n bs) ≤ n
+unfolding codes_there
+there_few F zero bs = omega arith
+there_few F (suc n) bs = go (F.dec bs) (λ rest. there_few F n rest)
+  where
+    go : (G : Got Code) → ((rest : List Bool) → length (codes_there F n rest) ≤ n) → length (code_and G (λ rest. codes_there F n rest)) ≤ suc n
+    go (got c rest) r = let k = r rest in omega arith
+    go (refused k) r = omega arith
+
+module _ (h g : ℕ) (bs : List Bool) (at : ℕ) where
+  put_there : {A : Type 0} (f : Code → A) (v : List A) → at + 6 ≤ length v
+      → splice v at (splice (take 6 (drop at v)) 0 (map f (codes_there (coded (mant_bits h) g) 6 bs))) ≡ splice v at (map f (codes_there (coded (mant_bits h) g) 6 bs))
+  put_there f v fits =
+      let k = there_few (coded (mant_bits h) g) 6 bs in
+      let l = length-map (codes_there (coded (mant_bits h) g) 6 bs) f in
+      part_spliced v _ at 6 (omega arith) fits
+
+  -- what six places hold after reading is what the whole output holds
+  pub values_placed : (v v' : List Float) (n : ℕ) → n ≡ 6 → at + 6 ≤ length v → v' ≡ six_values h g 0 bs (take n (drop at v)) → splice v at v' ≡ six_values h g at bs v
+  unfolding six_values
+  values_placed v v' n six fits e = ap (splice v at) (rw six at e) ∙ put_there (value_of h g) v fits
+
+  pub exacts_placed : (x x' : List ℤ) (n : ℕ) → n ≡ 6 → at + 6 ≤ length x → x' ≡ six_exacts h g 0 bs (take n (drop at x)) → splice x at x' ≡ six_exacts h g at bs x
+  unfolding six_exacts
+  exacts_placed x x' n six fits e = ap (splice x at) (rw six at e) ∙ put_there (exact_of h g) x fits

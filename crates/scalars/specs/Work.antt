@@ -18,12 +18,12 @@ unfoldable pub codes_there : Format Code → ℕ → List Bool → List Code
 codes_there F zero bs = []
 codes_there F (suc n) bs = code_and (F.dec bs) (λ rest. codes_there F n rest)
 
--- what read_six leaves in six places: the values of the codes that are there, from the first on
-unfoldable pub six_values : ℕ → ℕ → List Bool → List Float → List Float
-six_values h g bs v = splice v 0 (map (value_of h g) (codes_there (coded (mant_bits h) g) 6 bs))
+-- what read_six leaves in its outputs: the values of the codes that are there, from a place on
+unfoldable pub six_values : ℕ → ℕ → ℕ → List Bool → List Float → List Float
+six_values h g at bs v = splice v at (map (value_of h g) (codes_there (coded (mant_bits h) g) 6 bs))
 
-unfoldable pub six_exacts : ℕ → ℕ → List Bool → List ℤ → List ℤ
-six_exacts h g bs x = splice x 0 (map (exact_of h g) (codes_there (coded (mant_bits h) g) 6 bs))
+unfoldable pub six_exacts : ℕ → ℕ → ℕ → List Bool → List ℤ → List ℤ
+six_exacts h g at bs x = splice x at (map (exact_of h g) (codes_there (coded (mant_bits h) g) 6 bs))
 
 -- what it leaves there where all six are read
 abbrev pub SixLeft : ℕ → ℕ → List Float → List ℤ → List Code → Type 0

@@ -1,7 +1,7 @@
 // The reading of scalar mantissas: a code, the six codes of a bin, and read_scalar_aht_mantissas of the Rust.
 #![tactic(auto)]
 
-ghost use Rattle.std.specs.Prelude.{◌≡◌, ◌≢◌, ◌+◌, ◌*◌, ◌≤◌, Ok, length};
+ghost use Rattle.std.specs.Prelude.{◌≡◌, ◌≢◌, ◌+◌, ◌*◌, ◌≤◌, Ok, OnErr, length, take, drop};
 ghost use Rattle.bits.specs.Bits.{bit_at};
 ghost use Rattle.bits.specs.Format.{move_answer};
 ghost use Rattle.bits.specs.Takes.{ahead, Takes};
@@ -27,9 +27,9 @@ fn read_tagged(reader: &mut FieldReader, w: u32, v: u32) -> Result<Code, Refusal
     Ok(Code::Large(reader.read_u32(v)?))
 }
 
-// A code of the hebap at the gain.
+// A code of the hebap at the gain. A reader that meets the end behind a tag stands behind the tag then.
 #[tactic(auto, using(tables::proofs::Rules::mant_bits_lem, levels::proofs::CodeLaws::coded_tagged))]
-pub fn read_code(reader: &mut FieldReader, hebap: u8, gk: u8) -> Result<Code, Refusal>
+fn next_code(reader: &mut FieldReader, hebap: u8, gk: u8) -> Result<Code, Refusal>
     requires { (8 ≤ hebap) × (hebap ≤ 19) }
     ensures { Takes (λ c. c) ((coded (mant_bits hebap) gk).dec (ahead reader.old)) result (λ c. Unit) reader.old reader.new }
 {
@@ -40,14 +40,27 @@ pub fn read_code(reader: &mut FieldReader, hebap: u8, gk: u8) -> Result<Code, Re
     read_tagged(reader, levels::small_bits(m, gk), levels::large_bits(m, gk))
 }
 
+// A code of the hebap at the gain. Refuses with 8; a refusal leaves the reader as it was.
+pub fn read_code(reader: &mut FieldReader, hebap: u8, gk: u8) -> Result<Code, Refusal>
+    requires { (8 ≤ hebap) × (hebap ≤ 19) }
+    ensures reads { Takes (λ c. c) ((coded (mant_bits hebap) gk).dec (ahead reader.old)) result (λ c. Unit) reader.old reader.new }
+    ensures kept { OnErr result (reader.new ≡ reader.old) }
+{
+    let mut local = *reader;
+    let code = next_code(&mut local, hebap, gk)?;
+    *reader = local;
+    Ok(code)
+}
+
 // Six codes of Gk 1, bounds-checked by the caller. A copy of the reader stays in registers: the position of one that is
 // lent goes through memory at each code.
-fn read_fixed(reader: &mut FieldReader, s: CodeScale, values: &mut [f32; 6], exact: &mut [i32; 6])
+fn read_fixed(reader: &mut FieldReader, s: CodeScale, values: &mut [f32], exact: &mut [i32])
     requires gk_value { s.gk ≡ 1 }
     requires there { reader.old.pos.byte + 28 ≤ length reader.old.src.now }
+    requires places { (length values.old ≡ 6) × (length exact.old ≡ 6) }
     ensures reads { Takes (λ cs. tt) ((six (mant_bits s.hebap) s.gk).dec (ahead reader.old)) (Ok (tt {0})) (λ cs. Unit) reader.old reader.new }
-    ensures values_after { values.new ≡ six_values s.hebap s.gk (ahead reader.old) values.old }
-    ensures exact_after { exact.new ≡ six_exacts s.hebap s.gk (ahead reader.old) exact.old }
+    ensures values_after { values.new ≡ six_values s.hebap s.gk 0 (ahead reader.old) values.old }
+    ensures exact_after { exact.new ≡ six_exacts s.hebap s.gk 0 (ahead reader.old) exact.old }
 {
     let mut local = *reader;
     // by index, since two arrays are filled in step
@@ -77,14 +90,15 @@ fn take_code(reader: &mut FieldReader, s: CodeScale) -> Code
 fn read_small_or_large(
     reader: &mut FieldReader,
     s: CodeScale,
-    values: &mut [f32; 6],
-    exact: &mut [i32; 6],
+    values: &mut [f32],
+    exact: &mut [i32],
 )
     requires other { s.gk ≢ 1 }
     requires there { reader.old.pos.byte + 28 ≤ length reader.old.src.now }
+    requires places { (length values.old ≡ 6) × (length exact.old ≡ 6) }
     ensures reads { Takes (λ cs. tt) ((six (mant_bits s.hebap) s.gk).dec (ahead reader.old)) (Ok (tt {0})) (λ cs. Unit) reader.old reader.new }
-    ensures values_after { values.new ≡ six_values s.hebap s.gk (ahead reader.old) values.old }
-    ensures exact_after { exact.new ≡ six_exacts s.hebap s.gk (ahead reader.old) exact.old }
+    ensures values_after { values.new ≡ six_values s.hebap s.gk 0 (ahead reader.old) values.old }
+    ensures exact_after { exact.new ≡ six_exacts s.hebap s.gk 0 (ahead reader.old) exact.old }
 {
     let mut local = *reader;
     // by index, since two arrays are filled in step
@@ -100,12 +114,13 @@ fn read_small_or_large(
 fn read_each(
     reader: &mut FieldReader,
     s: CodeScale,
-    values: &mut [f32; 6],
-    exact: &mut [i32; 6],
+    values: &mut [f32],
+    exact: &mut [i32],
 ) -> Result<(), Refusal>
+    requires { (length values.old ≡ 6) × (length exact.old ≡ 6) }
     ensures reads { Takes (λ cs. tt) ((six (mant_bits s.hebap) s.gk).dec (ahead reader.old)) result (λ cs. Unit) reader.old reader.new }
-    ensures values_after { values.new ≡ six_values s.hebap s.gk (ahead reader.old) values.old }
-    ensures exact_after { exact.new ≡ six_exacts s.hebap s.gk (ahead reader.old) exact.old }
+    ensures values_after { values.new ≡ six_values s.hebap s.gk 0 (ahead reader.old) values.old }
+    ensures exact_after { exact.new ≡ six_exacts s.hebap s.gk 0 (ahead reader.old) exact.old }
 {
     // by index, since two arrays are filled in step
     for j in 0..6 {
@@ -116,17 +131,18 @@ fn read_each(
     Ok(())
 }
 
-// The six codes of a bin: their f32 and exact values. Six codes reach 24 bytes far at most (7 + 180 bits), and four
-// bytes are read at once: 28 bytes ahead are bounds check enough for all.
-pub fn read_six(
+// The six codes of a bin into six places. Six codes reach 24 bytes far at most (7 + 180 bits), and four bytes are read
+// at once: 28 bytes ahead are bounds check enough for all.
+fn read_here(
     reader: &mut FieldReader,
     s: CodeScale,
-    values: &mut [f32; 6],
-    exact: &mut [i32; 6],
+    values: &mut [f32],
+    exact: &mut [i32],
 ) -> Result<(), Refusal>
+    requires { (length values.old ≡ 6) × (length exact.old ≡ 6) }
     ensures reads { Takes (λ cs. tt) ((six (mant_bits s.hebap) s.gk).dec (ahead reader.old)) result (SixLeft s.hebap s.gk values.new exact.new) reader.old reader.new }
-    ensures values_after { values.new ≡ six_values s.hebap s.gk (ahead reader.old) values.old }
-    ensures exact_after { exact.new ≡ six_exacts s.hebap s.gk (ahead reader.old) exact.old }
+    ensures values_after { values.new ≡ six_values s.hebap s.gk 0 (ahead reader.old) values.old }
+    ensures exact_after { exact.new ≡ six_exacts s.hebap s.gk 0 (ahead reader.old) exact.old }
 {
     if !reader.has_bytes(28) {
         return read_each(reader, s, values, exact);
@@ -136,6 +152,33 @@ pub fn read_six(
     } else {
         read_small_or_large(reader, s, values, exact);
     }
+    Ok(())
+}
+
+// The six codes of a bin: their f32 and exact values go to the six places from `at` on. Refuses with 8; a refusal leaves
+// the reader as it was, and in the places the values of the codes that are there.
+pub fn read_six(
+    reader: &mut FieldReader,
+    s: CodeScale,
+    at: usize,
+    values: &mut [f32],
+    exact: &mut [i32],
+) -> Result<(), Refusal>
+    requires { (at + 6 ≤ length values.old) × (at + 6 ≤ length exact.old) }
+    ensures reads { Takes (λ cs. tt) ((six (mant_bits s.hebap) s.gk).dec (ahead reader.old)) result
+        (SixLeft s.hebap s.gk (take 6 (drop at values.new)) (take 6 (drop at exact.new))) reader.old reader.new }
+    ensures values_after { values.new ≡ six_values s.hebap s.gk at (ahead reader.old) values.old }
+    ensures exact_after { exact.new ≡ six_exacts s.hebap s.gk at (ahead reader.old) exact.old }
+    ensures kept { OnErr result (reader.new ≡ reader.old) }
+{
+    let mut local = *reader;
+    read_here(
+        &mut local,
+        s,
+        &mut values[at..at + 6],
+        &mut exact[at..at + 6],
+    )?;
+    *reader = local;
     Ok(())
 }
 

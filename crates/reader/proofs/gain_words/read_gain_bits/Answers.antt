@@ -20,11 +20,11 @@ loop-gain-init c = let a = c.args in (none_yet (gain_words a.mode) (length a.gai
 pub returns-in_err-code : goal.returns-in_err-code
 returns-in_err-code c = let a = c.args in
     rw (passed_on c.from_residual.ensures)
-    (word_refused c.loop-gain.invariant.0 _ _ _ _ (bit_short a.mode c.requires (length a.gains.now - c.loop-gain.gain-index) (omega arith) _ _ (refused_by _ _ _ _ _ _ c.in_err-code.ensures)))
+    (word_refused c.loop-gain.invariant.0 _ _ _ _ (bit_short a.mode c.requires (length a.gains.now - c.loop-gain.gain-index) (omega arith) _ _ (refused_by _ _ _ _ _ _ c.in_err-code.ensures.reads)))
 
 -- the code that was read
 code_is : (c : In_ok-code) → ((number 1).dec (ahead c.loop-gain.reader) ≡ got c.in_ok-code.code (ahead c.read_u32.new.self)) × (c.read_u32.new.self.src.now ≡ c.loop-gain.reader.src.now)
-code_is c = is_got _ _ _ _ _ c.in_ok-code.ensures
+code_is c = is_got _ _ _ _ _ c.in_ok-code.ensures.reads
 
 pub loop-gain-preserved : goal.loop-gain-preserved
 loop-gain-preserved c =

@@ -21,11 +21,11 @@ loop-i-init c = let a = c.args in (none_yet group_words (length a.gains.now) (ah
 pub returns-in_err-word : goal.returns-in_err-word
 returns-in_err-word c = let a = c.args in
     rw (passed_on c.from_residual.ensures)
-    (word_refused c.loop-i.invariant.0 _ _ _ _ (group_short (length a.gains.now - c.loop-i.i) (omega arith) _ _ (refused_by _ _ _ _ _ _ c.in_err-word.ensures)))
+    (word_refused c.loop-i.invariant.0 _ _ _ _ (group_short (length a.gains.now - c.loop-i.i) (omega arith) _ _ (refused_by _ _ _ _ _ _ c.in_err-word.ensures.reads)))
 
 -- the word that was read
 word_is : (c : In_ok-word) → ((number 5).dec (ahead c.loop-i.reader) ≡ got c.in_ok-word.word (ahead c.read_u32.new.self)) × (c.read_u32.new.self.src.now ≡ c.loop-i.reader.src.now)
-word_is c = is_got _ _ _ _ _ c.in_ok-word.ensures
+word_is c = is_got _ _ _ _ _ c.in_ok-word.ensures.reads
 
 pub returns-then-word-gt26 : goal.returns-then-word-gt26
 returns-then-word-gt26 c = word_refused c.loop-i.invariant.0 _ _ _ _
@@ -40,7 +40,7 @@ turn : (c : Else-missing) (out : List ℕ) → out ≡ splice c.loop-i.gains c.l
     → SoFar group_words (length c.args.gains.now) (ahead c.args.reader.now) c.args.gains.now (ahead c.read_u32.new.self) (c.loop-i.i + 3) out × (c.read_u32.new.self.src.now ≡ c.args.reader.now.src.now)
 turn c out put =
     let a = c.args in
-    let k = is_got _ _ _ _ _ c.in_ok-word.ensures in (
+    let k = is_got _ _ _ _ _ c.in_ok-word.ensures.reads in (
       word_more c.loop-i.invariant.0 c.read_u32.new.self 3 _ (take (length a.gains.now - c.loop-i.i) (three_gains c.in_ok-word.word)) (omega arith) (omega arith) (three_long (length a.gains.now - c.loop-i.i) c.in_ok-word.word)
           (group_next (length a.gains.now - c.loop-i.i) (omega arith) _ _ _ k.0 (omega arith) (rw c.loop-i.invariant.0.long at (sym c.missing.ensures ∙ c.if-missing.false))) (rw c.loop-i.invariant.0.long at put),
       k.1 ∙ c.loop-i.invariant.1,
