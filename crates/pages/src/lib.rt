@@ -114,7 +114,7 @@ fn cell_of(mode: u8, gains: &[u8], n: usize, v: BinVectors, bin: usize) -> Cell
     } else {
         0
     };
-    let bits = planner::bin_bits(mode, hebap, gain, v.six(bin));
+    let bits = planner::bin_bits(mode, hebap, gain, v.x, bin);
     Cell {
         bin: bin as u32,
         hebap,

@@ -52,6 +52,10 @@ planned_up_to limit row start end x = answered (cause_up_to limit row start end 
 abbrev pub planned : List ℕ → ℕ → ℕ → List Float → Result Plan Refusal
 planned = planned_up_to largest_size
 
+-- what stands beside a refusal
+abbrev pub no_plan : Plan
+no_plan = record { mode = 0; gains = no_gains; count = 0; payload = 0 }
+
 -- the plan that is answered; zeros where there is none
 abbrev pub plan_answered : List ℕ → ℕ → ℕ → List Float → Plan
-plan_answered row start end x = value_or (record { mode = 0; gains = no_gains; count = 0; payload = 0 }) (planned row start end x)
+plan_answered row start end x = value_or no_plan (planned row start end x)

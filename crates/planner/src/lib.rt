@@ -1,9 +1,12 @@
 // The plan of a channel: which mode and which gains take the fewest bits.
 #![tactic(auto)]
 
-ghost use Rattle.std.specs.Prelude.{◌≡◌};
+ghost use Rattle.std.specs.Prelude.{◌≡◌, ◌+◌, ◌*◌, ◌<◌, ◌≤◌, cond, length};
+ghost use Rattle.gains.specs.Gains.{active};
+ghost use Rattle.channel.specs.Row.{six_of};
+ghost use Rattle.planner.specs.Cost.{bin_bits};
 ghost use Rattle.planner.specs.Fit.{choice_fits, plan_fits, plan_cause};
-ghost use Rattle.planner.specs.Planning.{plan_of, cause_of, planned};
+ghost use Rattle.planner.specs.Planning.{no_plan, plan_of, cause_of, planned};
 ghost use Rattle.answers.specs.Answers.{answered};
 
 use answers::Refusal;
@@ -15,7 +18,7 @@ mod one_bin;
 mod tally;
 pub mod vectors;
 
-pub use one_bin::bin_bits;
+pub use costs::Costs;
 use tally::Tally;
 use vectors::BinVectors;
 
@@ -26,6 +29,20 @@ pub struct Plan {
     pub gains: [u8; 256],
     pub count: usize,
     pub payload: u32,
+}
+
+// The zeros that stand beside a refusal: what `unwrap_or_default` gives of a refused call.
+impl Default for Plan {
+    ghost is_default = { λ p. p ≡ no_plan };
+
+    fn default() -> Plan {
+        Plan {
+            mode: 0,
+            gains: channel::no_gains(),
+            count: 0,
+            payload: 0,
+        }
+    }
 }
 
 // The sizes from which on a component takes the tag and a large code.
@@ -121,4 +138,14 @@ pub fn check_plan(p: Plan, hebap: &[u8], start: usize, end: usize, x: &[f32]) ->
         return Err(Refusal::PlanMisfit);
     }
     Ok(())
+}
+
+// The bits of the bin at its gain; the gain counts where the bin is active.
+pub fn bin_bits(mode: u8, hebap: u8, gain: u8, x: &[f32], bin: usize) -> u32
+    requires { (bin < 256) × (6 * bin + 6 ≤ length x.now) }
+    ensures { result ≡ bin_bits hebap (cond (active mode hebap) gain 1) (six_of x.now bin) }
+{
+    let a = 6 * bin;
+    let b = a + 6;
+    one_bin::bin_bits(mode, hebap, gain, &x[a..b].as_chunks::<6>().0[0])
 }

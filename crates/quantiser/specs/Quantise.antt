@@ -1,6 +1,6 @@
 -- quantise_scalar and quantise_bin of the Rust, operation by operation. docs/FORMAT.md, Quantiser; the codes are those
 -- of ATSC A/52 Annex E, 3.4.4.2.
-use Rattle.std.specs.Prelude.{ℕ, suc, ◌+◌, ◌-◌, ◌%◌, ◌^◌, Bool, false, cond, ◌&&◌, ◌||◌, List, [], ◌∷◌, map, ℤ, pos, negsuc, ◌+ℤ◌, ◌-ℤ◌, neg_ℤ, ◌==◌, from_bits, int_lt, is_nan, nat_le, Float, Result, Ok, Err}
+use Rattle.std.specs.Prelude.{ℕ, suc, ◌+◌, ◌-◌, ◌%◌, ◌^◌, Bool, false, cond, ◌&&◌, ◌||◌, List, [], ◌∷◌, map, ℤ, pos, negsuc, ◌+ℤ◌, ◌-ℤ◌, neg_ℤ, ◌==◌, from_bits, int_lt, is_nan, nat_le, Float, Result, Ok, Err, replicate}
 use Rattle.std.specs.Float.{nan, inf, fin, binary32}
 use Rattle.std.specs.Float.Ieee.{add, sub, mul, div, lt, le}
 use Rattle.tables.specs.Tables.{mant_bits}
@@ -178,6 +178,10 @@ error_from h g err (x ∷ xs) =
 
 unfoldable pub bin_picked : ℕ → ℕ → List Float → QuantisedBin
 bin_picked h g xs = record { values = bin_values h g xs; bits = codes_bits h g xs; err = error_from h g f0 xs }
+
+-- what stands beside a refusal
+abbrev pub no_bin : QuantisedBin
+no_bin = record { values = replicate 6 f0; bits = 0; err = f0 }
 
 -- 11, then 5
 unfoldable pub quantised_bin_up_to : ℕ → ℕ → ℕ → List Float → Result QuantisedBin Refusal

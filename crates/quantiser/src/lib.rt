@@ -6,7 +6,7 @@ ghost use Rattle.std.specs.Prelude.{◌≡◌, ◌-◌, ◌≤◌, pos, negsuc};
 ghost use Rattle.std.specs.Coded.{Coded-set};
 ghost use Rattle.std.specs.Float.{binary32};
 ghost use Rattle.std.specs.Float.Ieee.{div};
-ghost use Rattle.quantiser.specs.Quantise.{picked, allowed, quantised, bin_values, codes_bits, error_from, bin_picked, quantised_bin};
+ghost use Rattle.quantiser.specs.Quantise.{picked, allowed, quantised, bin_values, codes_bits, error_from, bin_picked, no_bin, quantised_bin};
 ghost use Rattle.quantiser.specs.Work.{exponent_of, level_by, unit_by};
 ghost use Rattle.tables.specs.Tables.{mant_bits};
 ghost use Rattle.levels.specs.Codes.{small_bits, large_bits, code_bits};
@@ -28,6 +28,19 @@ pub struct QuantisedBin {
     pub values: [f32; 6],
     pub bits: u32,
     pub err: f32,
+}
+
+// The zeros that stand beside a refusal: what `unwrap_or_default` gives of a refused call.
+impl Default for QuantisedBin {
+    ghost is_default = { λ b. b ≡ no_bin };
+
+    fn default() -> QuantisedBin {
+        QuantisedBin {
+            values: [0.0; 6],
+            bits: 0,
+            err: 0.0,
+        }
+    }
 }
 
 // The bits of a bin and the sum of its squared errors.

@@ -16,9 +16,7 @@ pub fn magnitude(x: f32) -> u64
     }
 }
 
-// To the nearest integer, halves away from zero, clamped to an i32; 0 for a NaN. Both signs take one path. The abs of
-// std also sets zeros apart: with it writing scalars takes 2.5 % longer, and the writer is below its aim already. The
-// round of std begins with that abs.
+// To the nearest integer, halves away from zero, clamped to an i32; 0 for a NaN. Both signs take one path.
 pub fn round_half_away(x: f32) -> i64
     ensures { result ≡ round_away x }
 {

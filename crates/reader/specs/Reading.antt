@@ -22,6 +22,10 @@ pub record Call : Type 0 where
 abbrev pub call : List ℕ → ℕ → List Float → List ℤ → List ℕ → Call
 call src at values exact indices = record { src = src; at = at; values = values; exact = exact; indices = indices }
 
+-- zeros stand beside a refusal
+abbrev pub no_channel : ChannelRead
+no_channel = record { mode = 0; gains = no_gains; count = 0; bits = 0 }
+
 -- what is answered: the mode, the gains in bin order with unused places 0, and how many of n bits were used
 abbrev pub read_answer : ℕ → Got Channel → Result ChannelRead Refusal
 read_answer n (got c rest) =
@@ -58,4 +62,4 @@ module _ (row : List ℕ) (start end : ℕ) (c : Call) where
 
   -- what is answered; zeros where the call refuses
   abbrev pub channel_answered : ChannelRead
-  channel_answered = value_or (record { mode = 0; gains = no_gains; count = 0; bits = 0 }) answer_to
+  channel_answered = value_or no_channel answer_to

@@ -5,7 +5,7 @@ ghost use Rattle.std.specs.Prelude.{◌≡◌, ◌||◌, ◌+◌, ◌-◌, ◌*�
 ghost use Rattle.bits.specs.Bits.{bit_at};
 ghost use Rattle.bits.specs.Takes.{ahead, Takes};
 ghost use Rattle.channel.specs.Field.{field};
-ghost use Rattle.reader.specs.Reading.{call, answer_to, values_after, exact_after, indices_after};
+ghost use Rattle.reader.specs.Reading.{no_channel, call, answer_to, values_after, exact_after, indices_after};
 ghost use Rattle.reader.specs.Work.{outputs, Long, FoundPut, GainsPut, head_of};
 
 use answers::Refusal;
@@ -27,6 +27,20 @@ pub struct ChannelRead {
     pub gains: [u8; 256],
     pub count: usize,
     pub bits: u32,
+}
+
+// The zeros that stand beside a refusal: what `unwrap_or_default` gives of a refused call.
+impl Default for ChannelRead {
+    ghost is_default = { λ r. r ≡ no_channel };
+
+    fn default() -> ChannelRead {
+        ChannelRead {
+            mode: 0,
+            gains: channel::no_gains(),
+            count: 0,
+            bits: 0,
+        }
+    }
 }
 
 // What stands before the bins of a field: the mode, and how many gains.

@@ -19,4 +19,4 @@ returns c = let a = c.args in
       | else-is_active w ↦ inr (sym c.is_active.ensures ∙ w.if-is_active.false, w.gk-is)
     ]) in
     cell_is a.mode a.gains.now a.v.bins.row.now a.v.x.now a.v.bins.start a.bin a.n c.gain_at-gain.result c.if-is_active.gk c.bin_bits-bits.result c.requires.n_value
-    c.gain_at-gain.ensures y (rw c.six.ensures at c.bin_bits-bits.ensures)
+    c.gain_at-gain.ensures y c.bin_bits-bits.ensures
