@@ -93,10 +93,10 @@ module _ (s : CodeScale) where
 -- ---- a loop over six codes, where it ends
 module _ {h g : ℕ} {first r : FieldReader} {v : List Float} {x : List ℤ} {j : ℕ} {v' : List Float} {x' : List ℤ}
     (f : SoFar h g (ahead first) v x (ahead r) j v' x') where
-  -- the bits run out
-  pub taken_cut : j < 6 → (now : FieldReader) (k : Refusal) → Coded (coded (mant_bits h) g) r (Err k) now
-      → Takes {R = Unit {0}} (λ cs. tt) ((six (mant_bits h) g).dec (ahead first)) (Err k) (λ cs. Unit) first now × Left h g (ahead first) v x v' x'
-  taken_cut more now k t = let a = cut f more k (refused_by _ _ _ _ _ _ t) in (takes_refused _ _ _ first now k a.0, a.1)
+  -- the bits run out, wherever the reader is left
+  pub taken_cut : j < 6 → (now left : FieldReader) (k : Refusal) → Coded (coded (mant_bits h) g) r (Err k) now
+      → Takes {R = Unit {0}} (λ cs. tt) ((six (mant_bits h) g).dec (ahead first)) (Err k) (λ cs. Unit) first left × Left h g (ahead first) v x v' x'
+  taken_cut more now left k t = let a = cut f more k (refused_by _ _ _ _ _ _ t) in (takes_refused _ _ _ first left k a.0, a.1)
 
   -- all six are there
   pub taken_all : r.src.now ≡ first.src.now → 6 ≤ j

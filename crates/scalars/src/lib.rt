@@ -110,7 +110,8 @@ fn read_small_or_large(
     *reader = local;
 }
 
-// Six codes, each bounds-checked. Where the bits run out, the values of the codes before stand in the outputs.
+// Six codes, each bounds-checked. Where the bits run out, the values of the codes before stand in the outputs, and the
+// reader is as it was.
 fn read_each(
     reader: &mut FieldReader,
     s: CodeScale,
@@ -121,13 +122,16 @@ fn read_each(
     ensures reads { Takes (λ cs. tt) ((six (mant_bits s.hebap) s.gk).dec (ahead reader.old)) result (λ cs. Unit) reader.old reader.new }
     ensures values_after { values.new ≡ six_values s.hebap s.gk 0 (ahead reader.old) values.old }
     ensures exact_after { exact.new ≡ six_exacts s.hebap s.gk 0 (ahead reader.old) exact.old }
+    ensures kept { OnErr result (reader.new ≡ reader.old) }
 {
+    let mut local = *reader;
     // by index, since two arrays are filled in step
     for j in 0..6 {
-        let code = read_code(reader, s.hebap, s.gk)?;
+        let code = read_code(&mut local, s.hebap, s.gk)?;
         values[j] = levels::value_of(levels::level_of(s, code));
         exact[j] = levels::exact_value(s, code);
     }
+    *reader = local;
     Ok(())
 }
 
@@ -143,6 +147,7 @@ fn read_here(
     ensures reads { Takes (λ cs. tt) ((six (mant_bits s.hebap) s.gk).dec (ahead reader.old)) result (SixLeft s.hebap s.gk values.new exact.new) reader.old reader.new }
     ensures values_after { values.new ≡ six_values s.hebap s.gk 0 (ahead reader.old) values.old }
     ensures exact_after { exact.new ≡ six_exacts s.hebap s.gk 0 (ahead reader.old) exact.old }
+    ensures kept { OnErr result (reader.new ≡ reader.old) }
 {
     if !reader.has_bytes(28) {
         return read_each(reader, s, values, exact);
@@ -171,15 +176,7 @@ pub fn read_six(
     ensures exact_after { exact.new ≡ six_exacts s.hebap s.gk at (ahead reader.old) exact.old }
     ensures kept { OnErr result (reader.new ≡ reader.old) }
 {
-    let mut local = *reader;
-    read_here(
-        &mut local,
-        s,
-        &mut values[at..at + 6],
-        &mut exact[at..at + 6],
-    )?;
-    *reader = local;
-    Ok(())
+    read_here(reader, s, &mut values[at..at + 6], &mut exact[at..at + 6])
 }
 
 // Gk of a bin.

@@ -16,8 +16,8 @@ loop-j-init c = let a = c.args in (none_yet a.s.hebap a.s.gk (ahead a.reader.now
 
 pub returns-in_err-code : goal.returns-in_err-code
 returns-in_err-code c =
-    let k = taken_cut c.loop-j.invariant.0 (omega arith) _ _ c.in_err-code.ensures.reads in
-    rw (passed_on c.from_residual.ensures) record { reads = k.0; values_after = k.1.0; exact_after = k.1.1 }
+    let k = taken_cut c.loop-j.invariant.0 (omega arith) _ c.args.reader.now _ c.in_err-code.ensures.reads in
+    rw (passed_on c.from_residual.ensures) record { reads = k.0; values_after = k.1.0; exact_after = k.1.1; kept = refl }
 
 pub level_of-requires : goal.level_of-requires
 level_of-requires c = record { accepted = code_accepted c.args.s _ _ _ c.in_ok-code.ensures.reads }
@@ -35,4 +35,4 @@ loop-j-preserved c =
 pub returns : goal.returns
 returns c = let i = c.loop-j.invariant in
     let k = taken_all i.0 i.1 (omega arith) in
-    record { reads = k.0; values_after = k.1.0; exact_after = k.1.1 }
+    record { reads = k.0; values_after = k.1.0; exact_after = k.1.1; kept = tt }

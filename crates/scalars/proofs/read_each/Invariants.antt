@@ -6,5 +6,5 @@ use Rattle.scalars.proofs.read_each.Given as goal
 
 abbrev pub invariant-loop-j : goal.invariant-loop-j
 invariant-loop-j l =
-    SoFar l.s.hebap l.s.gk (ahead l.initial.reader) l.initial.values l.initial.exact (ahead l.reader) l.j l.values l.exact
-    × (l.reader.src.now ≡ l.initial.reader.src.now)
+    SoFar l.s.hebap l.s.gk (ahead l.initial.local) l.initial.values l.initial.exact (ahead l.local) l.j l.values l.exact
+    × (l.local.src.now ≡ l.initial.local.src.now)

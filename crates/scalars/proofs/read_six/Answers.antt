@@ -8,38 +8,22 @@ use borrow.Author.Rules.{rules}
 use borrow.Rule.Slice.PartMut.{put_mid}
 use Rattle.bits.specs.Takes.{ahead}
 use Rattle.bits.proofs.Copying.{part_put, part_back}
-use Rattle.scalars.specs.Work.{six_values, six_exacts}
 use Rattle.scalars.proofs.Six.{values_placed, exacts_placed}
 use Rattle.scalars.proofs.read_six.Goals as goal
-use Rattle.scalars.proofs.read_six.Goals.{After-read_here}
 
 -- six places from `at` on
 six_long : (at : ℕ) → at + 6 - at ≡ 6
 six_long at = omega arith
 
--- what the outputs hold, refused or not
-module _ (c : After-read_here) where
-  values_here : let a = c.args in put_mid a.at (a.at + 6 - a.at) a.values.now c.read_here.new.values ≡ six_values a.s.hebap a.s.gk a.at (ahead a.reader.now) a.values.now
-  values_here = let a = c.args in
-      part_put a.values.now _ a.at (a.at + 6 - a.at) (search rules)
-      ∙ values_placed a.s.hebap a.s.gk (ahead a.reader.now) a.at a.values.now _ (a.at + 6 - a.at) (six_long a.at) c.requires.0 c.read_here.ensures.values_after
-
-  exacts_here : let a = c.args in put_mid a.at (a.at + 6 - a.at) a.exact.now c.read_here.new.exact ≡ six_exacts a.s.hebap a.s.gk a.at (ahead a.reader.now) a.exact.now
-  exacts_here = let a = c.args in
-      part_put a.exact.now _ a.at (a.at + 6 - a.at) (search rules)
-      ∙ exacts_placed a.s.hebap a.s.gk (ahead a.reader.now) a.at a.exact.now _ (a.at + 6 - a.at) (six_long a.at) c.requires.1 c.read_here.ensures.exact_after
-
-pub returns-in_err-read_here-clause-values_after : goal.returns-in_err-read_here-clause-values_after
-returns-in_err-read_here-clause-values_after c = values_here (goal.at.returns-in_err-read_here-clause-values_after c).After-read_here
-
-pub returns-in_err-read_here-clause-exact_after : goal.returns-in_err-read_here-clause-exact_after
-returns-in_err-read_here-clause-exact_after c = exacts_here (goal.at.returns-in_err-read_here-clause-exact_after c).After-read_here
-
 pub returns-clause-values_after : goal.returns-clause-values_after
-returns-clause-values_after c = values_here (goal.at.returns-clause-values_after c).After-read_here
+returns-clause-values_after c = let a = c.args in
+    part_put a.values.now _ a.at (a.at + 6 - a.at) (search rules)
+    ∙ values_placed a.s.hebap a.s.gk (ahead a.reader.now) a.at a.values.now _ (a.at + 6 - a.at) (six_long a.at) c.requires.0 c.read_here.ensures.values_after
 
 pub returns-clause-exact_after : goal.returns-clause-exact_after
-returns-clause-exact_after c = exacts_here (goal.at.returns-clause-exact_after c).After-read_here
+returns-clause-exact_after c = let a = c.args in
+    part_put a.exact.now _ a.at (a.at + 6 - a.at) (search rules)
+    ∙ exacts_placed a.s.hebap a.s.gk (ahead a.reader.now) a.at a.exact.now _ (a.at + 6 - a.at) (six_long a.at) c.requires.1 c.read_here.ensures.exact_after
 
 -- what stands in the six places
 module _ {A : Type 0} (old part : List A) (at : ℕ) (long : length part ≡ at + 6 - at) (inside : at ≤ length old) where
@@ -50,4 +34,4 @@ pub returns-clause-reads : goal.returns-clause-reads
 returns-clause-reads c = let a = c.args in let i = c.requires in
     let v = six_back a.values.now c.read_here.new.values a.at (search rules) (omega arith) in
     let x = six_back a.exact.now c.read_here.new.exact a.at (search rules) (omega arith) in
-    rw (v, x) c.in_ok-read_here.ensures.reads
+    rw (v, x) c.read_here.ensures.reads
