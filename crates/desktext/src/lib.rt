@@ -55,7 +55,7 @@ const LARGEST: u32 = 16777216;
 const LONGEST: usize = 23121;
 
 // Room for the tokens of the longest text, one for each two bytes: a number takes two or more with the separator before
-// it, and a form's name four or more with its closing bracket.
+// it, and a form's name with its closing bracket five or more.
 const TOKENS: usize = 11561;
 
 // A channel's text, with room to work in.

@@ -125,7 +125,7 @@ fn read_each(
     ensures kept { OnErr result (reader.new ≡ reader.old) }
 {
     let mut local = *reader;
-    // by index, since two arrays are filled in step
+    // by index, since two arrays are filled in step; that read_code copies the reader once more does not show in times
     for j in 0..6 {
         let code = read_code(&mut local, s.hebap, s.gk)?;
         values[j] = levels::value_of(levels::level_of(s, code));
