@@ -16,7 +16,7 @@ loop-j-init c = let a = c.args in (none_yet a.s.hebap a.s.gk (ahead a.reader.now
 
 pub returns-in_err-code : goal.returns-in_err-code
 returns-in_err-code c =
-    let k = taken_cut c.loop-j.invariant.0 (omega arith) _ c.args.reader.now _ c.in_err-code.ensures.reads in
+    let k = taken_cut c.loop-j.invariant.0 (omega arith) _ _ _ c.in_err-code.ensures.reads in
     rw (passed_on c.from_residual.ensures) record { reads = k.0; values_after = k.1.0; exact_after = k.1.1; kept = refl }
 
 pub level_of-requires : goal.level_of-requires
