@@ -49,7 +49,7 @@ module _ (n d : ℕ) (s : List ℕ) where
   rest_none e f = rw (e, f)
 
 -- what the reader knows, one token on
-module _ (s r : List ℕ) (levels n : ℕ) (out : List Token) (few : levels ≤ 3) (room : 2 * n + length r + 1 ≤ 2 * length out) (here : Reading s r n (4 - levels) out) where
+module _ (s r : List ℕ) (levels n : ℕ) (out : List Token) (few : levels ≤ 3) (here : Reading s r n (4 - levels) out) where
   this : rest (suc (length s) - n) (4 - levels) r ≡ rest (suc (suc (length s) - (n + 1))) (suc (3 - levels)) r
   this =
       let p = here.fewer in
@@ -60,12 +60,12 @@ module _ (s r : List ℕ) (levels n : ℕ) (out : List Token) (few : levels ≤ 
   whole_is : (g : ReadText) → rest (suc (suc (length s) - (n + 1))) (suc (3 - levels)) r ≡ g → tokens s ≡ after (numbers_of (take n out)) g
   whole_is g e = here.whole ∙ ap (after (numbers_of (take n out))) (this ∙ e)
 
-  module _ (t : Token) (q : List ℕ) (past : length q < length r) where
+  module _ (t : Token) (q : List ℕ) (past : length q < length r) (room : n < length out) where
     put_here : (d : ℕ) → rest (suc (suc (length s) - (n + 1))) (suc (3 - levels)) r ≡ after (number_of t ∷ []) (rest (suc (length s) - (n + 1)) d q)
         → Reading s q (n + 1) d (set out n t)
     put_here d e =
         let p = here.fewer in
-        record { whole = whole_is _ e ∙ put out n t (rest (suc (length s) - (n + 1)) d q) (omega arith); fewer = omega arith }
+        record { whole = whole_is _ e ∙ put out n t (rest (suc (length s) - (n + 1)) d q) room; fewer = omega arith }
 
     pub on_close_lem : seen (number_of t) q ≡ closing r → Reading s q (n + 1) (3 - levels) (set out n t)
     on_close_lem e = put_here (3 - levels) (rest_close _ _ _ _ _ (sym e))
@@ -121,7 +121,7 @@ module _ (s r : List ℕ) (n : ℕ) (out : List Token) (now : Reading s r n 0 ou
   pub none_read : ending r ≡ malformed → tokens s ≡ malformed
   none_read e = last_is ∙ ap (after (numbers_of (take n out))) e
 
--- what a form reads behind its name is what the item reads
-pub form_goes : (s q : List ℕ) (n : ℕ) (r : Option (Bor (List ℕ) × ℕ)) → length q + 3 ≤ length s → Goes q (n + 1) 1 r → Goes s n 0 r
-form_goes s q n (Some p) h g = let a = g.0 in let b = g.1 in (omega arith, omega arith)
-form_goes s q n None h g = tt
+-- what a form reads behind its name is what the item reads, as far as the bytes of the name make up for k
+pub form_goes : (s q : List ℕ) (n k j : ℕ) (r : Option (Bor (List ℕ) × ℕ)) → length q < length s → length q + k + 2 ≤ length s + j → Goes q (n + 1) k r → Goes s n j r
+form_goes s q n k j (Some p) h f g = let a = g.0 in let b = g.1 in (omega arith, omega arith)
+form_goes s q n k j None h f g = tt
