@@ -80,8 +80,8 @@ module _ (s r : List ℕ) (levels n : ℕ) (out : List Token) (few : levels ≤ 
         let f : 4 - (levels - 1) ≡ suc (suc (3 - levels)) = omega arith in
         rw f (put_here (suc (suc (3 - levels))) (rest_form _ _ _ _ _ u (sym e) h (omega arith)))
 
-    pub on_deep : closing r ≡ unseen → seen (number_of t) q ≡ item_head r → last_number < number_of t → levels ≡ 0 → tokens s ≡ malformed
-    on_deep u e h k = whole_is malformed (rest_deep _ _ _ _ _ u (sym e) h (omega arith))
+  pub on_deep : (t : Token) (q : List ℕ) → closing r ≡ unseen → seen (number_of t) q ≡ item_head r → last_number < number_of t → levels ≡ 0 → tokens s ≡ malformed
+  on_deep t q u e h k = whole_is malformed (rest_deep _ _ _ _ _ u (sym e) h (omega arith))
 
   pub on_none : closing r ≡ unseen → unseen ≡ item_head r → tokens s ≡ malformed
   on_none u e = whole_is malformed (rest_none _ _ _ u (sym e))
@@ -121,7 +121,8 @@ module _ (s r : List ℕ) (n : ℕ) (out : List Token) (now : Reading s r n 0 ou
   pub none_read : ending r ≡ malformed → tokens s ≡ malformed
   none_read e = last_is ∙ ap (after (numbers_of (take n out))) e
 
--- what a form reads behind its name is what the item reads, as far as the bytes of the name make up for k
+-- what a form reads behind its head is what the item reads: the head's bytes make up for its token, which is two, and for
+-- what k is above j
 pub form_goes : (s q : List ℕ) (n k j : ℕ) (r : Option (Bor (List ℕ) × ℕ)) → length q < length s → length q + k + 2 ≤ length s + j → Goes q (n + 1) k r → Goes s n j r
 form_goes s q n k j (Some p) h f g = let a = g.0 in let b = g.1 in (omega arith, omega arith)
 form_goes s q n k j None h f g = tt

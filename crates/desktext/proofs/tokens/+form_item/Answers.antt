@@ -46,7 +46,7 @@ item-returns-then-levels-eq0 t c =
     let f = c.in_ok-t.ensures in
     record {
       goes = tt;
-      reads = λ s h. on_deep s _ _ _ _ p.0 h _ _ f.onward.0 (omega arith) p.2 f.shown (bracket_large _ c.in_default.not-Number) c.if-levels-eq0.true;
+      reads = λ s h. on_deep s _ _ _ _ p.0 h _ _ p.2 f.shown (bracket_large _ c.in_default.not-Number) c.if-levels-eq0.true;
     }
 
 pub item-returns : goal.item-returns
